@@ -1,0 +1,7 @@
+-- The laws. A crate above names these as `Rattle.field.proofs.Laws`.
+pub mod Computed
+pub mod Xor
+pub mod Laws
+pub mod Writing
+pub mod Answers
+mod Examples

@@ -1,0 +1,45 @@
+-- What a call that may refuse answers: a value, or the number of the refusal in document 01's table. Every layer's answers are read so.
+-- Assumes nothing.
+use mathlib.Core.Bool.{Bool, true, false}
+use Prim.Native.Nat.{ℕ}
+use lib.Dec.{eqb, ltb}
+use Rattle.field.specs.Octet.{power, over}
+use Rattle.field.specs.declared.refusal.Refusal.{Refusal}
+use Rattle.field.specs.declared.refusal.Refusal.the-variants as Why
+use Rattle.field.specs.declared.octet.Answer.{Answer}
+use Rattle.field.specs.declared.octet.Answer.the-variants as Answers
+
+pub data Outcome (A : Type 0) : Type 0 where
+  given : A → Outcome A
+  refused : ℕ → Outcome A
+
+-- refused with n where the test holds, else what follows: a chain of these is an order of precedence
+abbrev pub unless : {A : Type 0} → Bool → ℕ → Outcome A → Outcome A
+unless true n o = refused n
+unless false n o = o
+
+-- document 01, 'Refusal numbers'
+abbrev pub numberOf : Refusal → ℕ
+numberOf Why.DivisorZero = 1
+numberOf Why.OutOfRange = 2
+numberOf Why.BadTransmission = 3
+numberOf Why.BadRow = 4
+numberOf Why.BadTables = 5
+numberOf Why.Outside = 6
+numberOf Why.SamePlace = 7
+numberOf Why.WrongLength = 8
+numberOf Why.BadCount = 9
+numberOf Why.BadSize = 10
+
+-- what each case of the octets' answer stands for
+abbrev pub outcome : Answer → Outcome ℕ
+outcome (Answers.Octet x) = given x
+outcome (Answers.Refused why) = refused (numberOf why)
+
+-- what a division answers
+abbrev pub divided : ℕ → ℕ → Outcome ℕ
+divided a b = unless (eqb b 0) 1 (given (over a b))
+
+-- what a power of alpha answers
+abbrev pub raised : ℕ → Outcome ℕ
+raised i = unless (ltb 255 i) 2 (given (power i))

@@ -1,0 +1,24 @@
+-- Runs of octets, place by place, and what a call leaves in the memory that it was lent.
+-- Assumes nothing.
+use mathlib.Core.Path.{_≡_}
+use mathlib.Core.List.{List}
+use Prim.Native.Nat.{ℕ, _+_, _≤_, _<_}
+use lib.ListN.{length, getD}
+use Rattle.field.specs.Octet.{plus, times}
+
+-- ys is xs, but that the n places from `at` on hold f 0, f 1, .. : the one word of all layers for memory that was written
+pub record Written (f : ℕ → ℕ) (xs ys : List ℕ) (at n : ℕ) : Type 0 where
+  pub size : length ys ≡ length xs
+  pub part : (k : ℕ) → k < n → getD ys (at + k) 0 ≡ f k
+  pub low : (k : ℕ) → k < at → getD ys k 0 ≡ getD xs k 0
+  pub high : (k : ℕ) → at + n ≤ k → getD ys k 0 ≡ getD xs k 0
+
+-- RFC 6330, 5.7.5: the octets of a sum, of a multiple, and of a sum with a multiple
+abbrev pub added : List ℕ → ℕ → List ℕ → ℕ → ℕ
+added d at s k = plus (getD d (at + k) 0) (getD s k 0)
+
+abbrev pub scaled : ℕ → List ℕ → ℕ → ℕ
+scaled c d k = times c (getD d k 0)
+
+abbrev pub fused : List ℕ → ℕ → ℕ → List ℕ → ℕ → ℕ
+fused d at c s k = plus (getD d (at + k) 0) (times c (getD s k 0))
