@@ -1,0 +1,32 @@
+//! One line a piece of work: our time over that of plain Rust, both taken in this process in turns, the best of several rounds.
+mod field;
+
+use std::time::Instant;
+
+/// The time of `work` done `times` over, in seconds.
+fn timed(times: usize, work: &mut dyn FnMut()) -> f64 {
+    let start = Instant::now();
+    for _ in 0..times {
+        work();
+    }
+    start.elapsed().as_secs_f64()
+}
+
+/// Ours over theirs: each is the best of nine rounds, taken in turns so that both see the same machine.
+pub fn ratio(times: usize, ours: &mut dyn FnMut(), theirs: &mut dyn FnMut()) -> f64 {
+    let (mut a, mut b) = (f64::MAX, f64::MAX);
+    for _ in 0..9 {
+        a = a.min(timed(times, ours));
+        b = b.min(timed(times, theirs));
+    }
+    a / b
+}
+
+pub fn line(work: &str, against: &str, ratio: f64, bar: Option<f64>) {
+    let bar = bar.map_or(String::new(), |b| format!(" (at most {b}){}", if ratio <= b { "" } else { ": MISSED" }));
+    println!("{work:<34} {ratio:>6.2} times {against}{bar}");
+}
+
+fn main() {
+    field::run();
+}

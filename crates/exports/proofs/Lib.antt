@@ -1,0 +1,2 @@
+-- That the C interface's contracts settle answer and memory.
+pub mod Calls

@@ -1,0 +1,20 @@
+-- `exports::octets::spoonripple_octet_sub` meets its contract: it hands over what `octet::sub` gives.
+-- Assumes nothing.
+use borrow.Author.Needs.{needs}
+use Rattle.exports.proofs.octets.spoonripple_octet_sub.Statement.{statement}
+use Rattle.exports.proofs.octets.spoonripple_octet_sub.Tie as tie
+
+sub-requires : tie.Need-sub-requires
+sub-requires c κs = search needs
+
+hand-requires : tie.Need-hand-requires
+hand-requires c κs = search needs
+
+same-length : tie.Need-same-length
+same-length c = search needs
+
+returns : tie.Need-returns
+returns c = rw (← c .before .before .before .before .sub .ensures) (c .before .before .hand .ensures)
+
+pub spoonripple-octet-sub-spec : {M : Type 1} → statement M
+spoonripple-octet-sub-spec = tie.close (tie.spec sub-requires hand-requires same-length returns)

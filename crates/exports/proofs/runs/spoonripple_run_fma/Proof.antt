@@ -1,0 +1,23 @@
+-- `exports::runs::spoonripple_run_fma` meets its contract: two runs of one length are what `bytes::fma` makes of them.
+-- Assumes nothing.
+use mathlib.Core.Path.{refl, sym}
+use borrow.Author.Tests.{eq-eqb, ne-eqb}
+use Rattle.field.proofs.Writing.{written-is}
+use borrow.Author.Needs.{needs}
+use Rattle.exports.proofs.runs.spoonripple_run_fma.Statement.{statement}
+use Rattle.exports.proofs.runs.spoonripple_run_fma.Tie as tie
+
+fma-requires : tie.Need-fma-requires
+fma-requires c κs = search needs
+
+same-length : tie.Need-same-length
+same-length c = search needs
+
+returns : tie.Need-returns
+returns c = rw (eq-eqb _ _ (c .before .before .before .before .if1 .taken)) (refl, written-is (c .before .before .fma .ensures) (sym (c .before .before .before .before .if1 .taken)))
+
+returns-2 : tie.Need-returns-2
+returns-2 c = rw (ne-eqb _ _ (c .if1 .left)) (refl, refl)
+
+pub spoonripple-run-fma-spec : {M : Type 1} → statement M
+spoonripple-run-fma-spec = tie.close (tie.spec fma-requires same-length returns returns-2)

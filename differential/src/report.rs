@@ -1,0 +1,43 @@
+//! What an area found: how many cases, how many differences, and how many cases a named rule set apart.
+use std::collections::BTreeMap;
+
+pub struct Report {
+    area: &'static str,
+    cases: u64,
+    differences: u64,
+    /// Cases that a rule of docs/DIFFERENCES.md names, where the two sides are known to differ and were seen to.
+    named: BTreeMap<&'static str, u64>,
+}
+
+impl Report {
+    pub fn new(area: &'static str) -> Report {
+        Report { area, cases: 0, differences: 0, named: BTreeMap::new() }
+    }
+
+    /// One case: the same on both sides, or a difference whose input is printed (the first twenty).
+    pub fn case(&mut self, same: bool, input: impl FnOnce() -> String) {
+        self.cases += 1;
+        if !same {
+            self.differences += 1;
+            if self.differences <= 20 {
+                println!("{}: differs at {}", self.area, input());
+            }
+        }
+    }
+
+    /// One case of a difference that docs/DIFFERENCES.md lists under this name: `as_listed` says that both sides did what is written there.
+    pub fn listed(&mut self, rule: &'static str, as_listed: bool, input: impl FnOnce() -> String) {
+        *self.named.entry(rule).or_insert(0) += 1;
+        self.case(as_listed, input);
+    }
+
+    /// Prints the area's line; true where there was no difference.
+    pub fn close(self) -> bool {
+        let mut line = format!("{}: {} cases, {} differences", self.area, self.cases, self.differences);
+        for (rule, count) in &self.named {
+            line += &format!("; {count} as listed under {rule}");
+        }
+        println!("{line}");
+        self.differences == 0
+    }
+}
