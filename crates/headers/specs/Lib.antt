@@ -1,0 +1,5 @@
+-- What the contracts of `headers` cite. A crate above names these as `Rattle.headers.specs.Headers`.
+pub mod Bytes
+pub mod Headers
+pub mod Quotient
+pub mod Partition
