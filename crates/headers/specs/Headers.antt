@@ -1,8 +1,8 @@
 -- Payload ids, transmission information and packets: RFC 6330, 3.2, 3.3.2, 3.3.3 and 4.4.2; document 01, 'Headers'.
 -- Assumes nothing.
 use mathlib.Core.Path.{_≡_}
-use mathlib.Core.Bool.{Bool, true, false, not}
-use mathlib.Core.List.{List, [], _∷_, _++_}
+use mathlib.Core.Bool.{Bool, not}
+use mathlib.Core.List.{List, _++_}
 use Prim.Native.Nat.{ℕ, _+_, _-_, _%_}
 use lib.Dec.{eqb, ltb}
 use lib.ListN.{length}
@@ -36,6 +36,10 @@ pub record Stores (room : Outcome (Unit {0})) (bs xs ys : List ℕ) (r : Writing
   pub answer : writingOutcome r ≡ room
   pub memory : Left bs xs ys r
 
+-- may it be done? A number of at most `most`, else n; a store of at least `need` bytes, else 8
+abbrev pub room : ℕ → ℕ → ℕ → ℕ → ℕ → Outcome (Unit {0})
+room x most n need size = unless (ltb most x) n (unless (ltb size need) 8 (given tt))
+
 -- 1 byte block number, 3 bytes ESI
 abbrev pub idBytes : PayloadId → List ℕ
 idBytes i = inBytes 1 (i .«source_block_number») ++ inBytes 3 (i .«encoding_symbol_id»)
@@ -50,9 +54,8 @@ idOutcome (Ids.the-variants.Refused why) = refused (numberOf why)
 abbrev pub readId : List ℕ → Outcome PayloadId
 readId s = unless (not (eqb (length s) 4)) 8 (given (idAt s))
 
--- an id into a store of so many bytes
 abbrev pub roomForId : PayloadId → ℕ → Outcome (Unit {0})
-roomForId i size = unless (ltb 16777215 (i .«encoding_symbol_id»)) 9 (unless (ltb size 4) 8 (given tt))
+roomForId i = room (i .«encoding_symbol_id») 16777215 9 4
 
 -- F 5 bytes, reserved 1, T 2, Z 1, N 2, Al 1
 abbrev pub infoBytes : ObjectTransmissionInformation → List ℕ
@@ -79,7 +82,7 @@ abbrev pub readInfo : List ℕ → Outcome ObjectTransmissionInformation
 readInfo s = unless (not (eqb (length s) 12)) 8 (given (infoAt s))
 
 abbrev pub roomForInfo : ObjectTransmissionInformation → ℕ → Outcome (Unit {0})
-roomForInfo o size = unless (ltb 1099511627775 (o .«transfer_length»)) 2 (unless (ltb size 12) 8 (given tt))
+roomForInfo o = room (o .«transfer_length») 1099511627775 2 12
 
 abbrev pub checkOutcome : Verdicts.Verdict → Outcome (Unit {0})
 checkOutcome Verdicts.the-variants.Accepted = given tt
@@ -117,6 +120,6 @@ abbrev pub packetOutcome : Packets.Answer → Outcome (PayloadId × ℕ × ℕ)
 packetOutcome (Packets.the-variants.Packet i from len) = given (i, from, len)
 packetOutcome (Packets.the-variants.Refused why) = refused (numberOf why)
 
--- an id and n bytes into a store of so many
+-- an id and n bytes more
 abbrev pub roomForPacket : PayloadId → ℕ → ℕ → Outcome (Unit {0})
-roomForPacket i n size = unless (ltb 16777215 (i .«encoding_symbol_id»)) 9 (unless (ltb size (4 + n)) 8 (given tt))
+roomForPacket i n = room (i .«encoding_symbol_id») 16777215 9 (4 + n)
