@@ -1,0 +1,110 @@
+// The object transmission information: twelve bytes, and the rules that it has to keep (RFC 6330, 3.3.2 and 3.3.3).
+ghost use mathlib.Core.Path.{_≡_};
+ghost use Prim.Native.Nat.{_≤_};
+ghost use lib.ListN.{length};
+ghost use Rattle.headers.specs.Bytes.{Laid};
+ghost use Rattle.headers.specs.Headers.{Stores, checkOutcome, checked, crowded, infoBytes, infoOutcome, readInfo, roomForInfo};
+use crate::beneath::big_endian;
+use crate::beneath::util;
+use crate::writing::Writing;
+use field::refusal::Refusal;
+
+pub struct ObjectTransmissionInformation {
+    pub transfer_length: u64,
+    pub symbol_size: u16,
+    pub num_source_blocks: u8,
+    pub num_sub_blocks: u16,
+    pub symbol_alignment: u8,
+}
+
+pub enum Answer {
+    Information(ObjectTransmissionInformation),
+    Refused(Refusal),
+}
+
+pub enum Verdict {
+    Accepted,
+    Refused(Refusal),
+}
+
+// Applies no rule: the sender's numbers as they are.
+pub fn deserialize(bytes: &[u8]) -> Answer
+    ensures { λ r. ⌜ infoOutcome r ≡ readInfo (now (bytes .entry)) ⌝ }
+{
+    if bytes.len() != 12 {
+        return Answer::Refused(Refusal::WrongLength);
+    }
+    let transfer_length = big_endian::get(bytes, 0, 5);
+    let symbol_size = big_endian::get(bytes, 6, 2) as u16;
+    let num_source_blocks = big_endian::get(bytes, 8, 1) as u8;
+    let num_sub_blocks = big_endian::get(bytes, 9, 2) as u16;
+    let symbol_alignment = big_endian::get(bytes, 11, 1) as u8;
+    Answer::Information(ObjectTransmissionInformation {
+        transfer_length,
+        symbol_size,
+        num_source_blocks,
+        num_sub_blocks,
+        symbol_alignment,
+    })
+}
+
+pub fn serialize(info: ObjectTransmissionInformation, store: &mut [u8]) -> Writing
+    ensures { λ r. ⌜ Stores (roomForInfo info (length (now (store .entry)))) (infoBytes info) (now (store .entry)) (now (store .exit)) r ⌝ }
+{
+    if info.transfer_length >= 1099511627776 {
+        return Writing::Refused(Refusal::OutOfRange);
+    }
+    if store.len() < 12 {
+        return Writing::Refused(Refusal::WrongLength);
+    }
+    put(store, info);
+    Writing::Done
+}
+
+fn put(store: &mut [u8], info: ObjectTransmissionInformation)
+    requires { ⌜ 12 ≤ length (now store) ⌝ }
+    ensures { λ _. ⌜ Laid (infoBytes info) (now (store .entry)) (now (store .exit)) 0 ⌝ }
+{
+    big_endian::put(store, 0, 5, info.transfer_length);
+    big_endian::put(store, 5, 1, 0); // reserved
+    big_endian::put(store, 6, 2, info.symbol_size as u64);
+    big_endian::put(store, 8, 1, info.num_source_blocks as u64);
+    big_endian::put(store, 9, 2, info.num_sub_blocks as u64);
+    big_endian::put(store, 11, 1, info.symbol_alignment as u64);
+}
+
+// Too many symbols in a block: ceil(ceil(F/T)/Z) exceeds the largest K' (RFC 6330, 4.4.1.2).
+fn is_crowded(f: u64, t: u16, z: u8) -> bool
+    ensures { λ r. ⌜ r ≡ crowded f t z ⌝ }
+{
+    if t == 0 {
+        return false;
+    }
+    if z == 0 {
+        return false;
+    }
+    util::int_div_ceil(util::int_div_ceil(f, t as u64), z as u64) > 56403
+}
+
+// As the crate's `new`, T = 0 and Z = 0 pass.
+pub fn check(info: ObjectTransmissionInformation) -> Verdict
+    ensures { λ r. ⌜ checkOutcome r ≡ checked info ⌝ }
+{
+    if info.transfer_length > 942574504275 {
+        return Verdict::Refused(Refusal::BadTransmission);
+    }
+    if info.symbol_alignment == 0 {
+        return Verdict::Refused(Refusal::BadTransmission);
+    }
+    if info.symbol_size % info.symbol_alignment as u16 != 0 {
+        return Verdict::Refused(Refusal::BadTransmission);
+    }
+    if is_crowded(
+        info.transfer_length,
+        info.symbol_size,
+        info.num_source_blocks,
+    ) {
+        return Verdict::Refused(Refusal::BadTransmission);
+    }
+    Verdict::Accepted
+}
