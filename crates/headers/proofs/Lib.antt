@@ -1,0 +1,5 @@
+-- The laws. A crate above names these as `Rattle.headers.proofs.Accepted`.
+pub mod Tests
+pub mod Primes
+pub mod Rising
+pub mod Accepted

@@ -1,0 +1,7 @@
+-- What the contracts of `headers` cite. A crate above names these as `Rattle.headers.specs.Row`.
+pub mod Told
+pub mod Number
+pub mod Rand
+pub mod Degree
+pub mod Prime
+pub mod Row
