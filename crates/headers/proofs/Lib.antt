@@ -3,3 +3,6 @@ pub mod Tests
 pub mod Primes
 pub mod Rising
 pub mod Accepted
+pub mod Tuples
+pub mod Settled
+mod Examples

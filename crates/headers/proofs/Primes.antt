@@ -1,16 +1,15 @@
 -- Trial division up to the root; the test of a prime and the search for the next one; the prime 65,537 that ends each search.
 -- Assumes nothing.
 use mathlib.Core.Path.{_≡_, refl, sym, ap, _∙_, subst}
-use mathlib.Core.Bool.{Bool, true, false, not}
+use mathlib.Core.Bool.{Bool, true, false}
 use Prim.Native.Nat.{ℕ, zero, suc, _+_, _-_, _*_, _/_, _%_, _≤_, _<_}
 use native.Mathlib.Nat.{mul-le-mul, mul-le-mul-right, div-add-mod', mul-mod-right, one-mul, add-zero}
 use native.Mathlib.Decide.{decLt, ℕ-discrete}
 use native.Mathlib.Omega.{arith}
-use borrow.Author.Count.{below-more}
-use lib.Dec.{T, eqb, leb}
-use Rattle.field.specs.Choice.{pick, both}
+use lib.Dec.{eqb}
+use Rattle.field.specs.Choice.{pick}
 use Rattle.headers.specs.Prime.{Prime, FirstFrom, clear, prime, seek, firstPrime}
-use Rattle.headers.proofs.Tests.{Tells, tells-both, tells-not, tells-as, tells-le, tells-eq, is-true, is-false, passed}
+use Rattle.headers.proofs.Tests.{Tells, tells-both, tells-not, tells-as, tells-le, tells-eq, passed}
 
 -- no number from 2 up to below d divides n
 abbrev pub Clear : ℕ → ℕ → Type 0

@@ -1,17 +1,16 @@
 -- The thresholds rise, by one computed test; so one interval holds v, and the climb finds it.
 -- Assumes nothing.
-use mathlib.Core.Path.{_≡_, ap, _∙_, subst, sym}
+use mathlib.Core.Path.{_≡_, ap, _∙_, subst}
 use mathlib.Core.List.{List, [], _∷_}
-use mathlib.Core.Bool.{Bool, true, false}
-use Prim.Native.Nat.{ℕ, zero, suc, _+_, _-_, _<_, _≤_, min}
+use Prim.Native.Nat.{ℕ, zero, suc, _-_, _<_, _≤_, min}
 use native.Mathlib.Decide.{decLt, le-ind}
 use native.Mathlib.Nat.{le-trans, le-of-lt, le-refl}
 use native.Mathlib.Omega.{arith}
 use borrow.Author.Tests.{lt-ltb, le-ltb}
-use lib.Dec.{T, ltb, ltb→lt}
+use lib.Dec.{ltb, ltb→lt}
 use lib.ListN.{length, getD}
 use Rattle.field.specs.Choice.{pick}
-use Rattle.field.proofs.Computed.{below, under}
+use Rattle.field.proofs.Computed.{under}
 use Rattle.headers.specs.Degree.{thresholds, Holds, climb, degree}
 
 abbrev f : ℕ → ℕ

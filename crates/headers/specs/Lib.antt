@@ -5,3 +5,6 @@ pub mod Rand
 pub mod Degree
 pub mod Prime
 pub mod Row
+pub mod Shift
+pub mod Tuples
+pub mod Examples

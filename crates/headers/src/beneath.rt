@@ -3,3 +3,4 @@ pub mod deg;
 pub mod prime;
 pub mod rng;
 pub mod row;
+pub mod tuple;

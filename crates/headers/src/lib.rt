@@ -5,3 +5,4 @@ pub mod ids;
 pub mod number;
 pub mod rng;
 pub mod row;
+pub mod tuple;
