@@ -4,4 +4,3 @@ pub mod Xor
 pub mod Laws
 pub mod Writing
 pub mod Answers
-mod Examples

@@ -1,8 +1,14 @@
--- The laws. A crate above names these as `Rattle.headers.proofs.Headers`.
-pub mod Answers
-pub mod Bytes
-mod Examples
-pub mod Headers
-pub mod Parting
+-- The laws. A crate above names these as `Rattle.headers.proofs.Accepted`.
+pub mod Tests
 pub mod Quotient
+pub mod Bytes
+pub mod Headers
 pub mod RoundTrip
+pub mod Parting
+pub mod Primes
+pub mod Rising
+pub mod Accepted
+pub mod Tuples
+pub mod Answers
+pub mod Settled
+mod Examples

@@ -1,6 +1,14 @@
--- What the contracts of `headers` cite. A crate above names these as `Rattle.headers.specs.Headers`.
+-- What the contracts of `headers` cite. A crate above names these as `Rattle.headers.specs.Row`.
+pub mod Told
+pub mod Number
+pub mod Quotient
 pub mod Bytes
-pub mod Examples
 pub mod Headers
 pub mod Partition
-pub mod Quotient
+pub mod Rand
+pub mod Degree
+pub mod Prime
+pub mod Row
+pub mod Shift
+pub mod Tuples
+pub mod Examples

@@ -1,0 +1,96 @@
+-- `headers::beneath::row::obeys` meets its contract.
+-- Assumes nothing.
+use native.Mathlib.Omega.{arith}
+use borrow.Author.Tests.{not-true, not-false}
+use Rattle.headers.specs.Row.{Ranges}
+use Rattle.headers.proofs.Tests.{told-true, told-false}
+use borrow.Author.Needs.{needs}
+use Rattle.headers.proofs.beneath.row.obeys.Statement.{statement}
+use Rattle.headers.proofs.beneath.row.obeys.Tie as tie
+
+in-range-requires : tie.Need-in-range-requires
+in-range-requires c κs = search needs
+
+returns : tie.Need-returns
+returns c =
+    let b = c .before .in-range .result in
+    λ o. told-false b (not-true b (c .if1 .taken)) (c .before .in-range .ensures) (o .ranges)
+
+-- past the first test each number is in its range
+ranged : (c : tie.Else1) → let r = c .before .before .args .r in Ranges (r .k) (r .j) (r .s) (r .h) (r .w)
+ranged c = told-true (c .before .in-range .result) (not-false (c .before .in-range .result) (c .if1 .left)) (c .before .in-range .ensures)
+
+is-prime-requires : tie.Need-is-prime-requires
+is-prime-requires c κs = let k = ranged c in omega arith
+
+returns-2 : tie.Need-returns-2
+returns-2 c =
+    let b = c .before .is-prime .result in
+    λ o. told-false b (not-true b (c .if2 .taken)) (c .before .is-prime .ensures) (o .w-prime)
+
+returns-3 : tie.Need-returns-3
+returns-3 c = search needs
+
+add-l : tie.Need-add-l
+add-l c = let k = ranged (c .before .before .before .before) in omega arith
+
+add-l-2 : tie.Need-add-l-2
+add-l-2 c = let k = ranged (c .before .before .before .before .before) in omega arith
+
+add-if4 : tie.Need-add-if4
+add-if4 c = let k = ranged (c .before .before .before .before .before) in omega arith
+
+returns-4 : tie.Need-returns-4
+returns-4 c = search needs
+
+sub-if5 : tie.Need-sub-if5
+sub-if5 c = search needs
+
+add-if5 : tie.Need-add-if5
+add-if5 c = search needs
+
+sub-if5-2 : tie.Need-sub-if5-2
+sub-if5-2 c = search needs
+
+div-if5 : tie.Need-div-if5
+div-if5 c = let k = ranged (c .before .before .before .before .before .before) in omega arith
+
+returns-5 : tie.Need-returns-5
+returns-5 c = search needs
+
+returns-6 : tie.Need-returns-6
+returns-6 c = search needs
+
+returns-7 : tie.Need-returns-7
+returns-7 c =
+    let tested = c .before .before .before .before .before .before in
+    let b = tested .before .is-prime .result in
+    record {
+      ranges = ranged (tested .before .before);
+      w-prime = told-true b (not-false b (tested .if2 .left)) (tested .before .is-prime .ensures);
+      b-low = omega arith;
+      p-low = omega arith;
+      b-high = omega arith;
+      l-high = omega arith;
+    }
+
+pub obeys-spec : {M : Type 1} → statement M
+obeys-spec =
+    tie.close
+    (tie.spec
+    in-range-requires
+    returns
+    is-prime-requires
+    returns-2
+    returns-3
+    add-l
+    add-l-2
+    add-if4
+    returns-4
+    sub-if5
+    add-if5
+    sub-if5-2
+    div-if5
+    returns-5
+    returns-6
+    returns-7)

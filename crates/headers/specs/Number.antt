@@ -1,0 +1,10 @@
+-- What a call that gives a number answers, `number::Number`.
+-- Assumes nothing.
+use Prim.Native.Nat.{ℕ}
+use Rattle.field.specs.Answer.{Outcome, given, refused, numberOf}
+use Rattle.headers.specs.declared.number.Number.{Number}
+use Rattle.headers.specs.declared.number.Number.the-variants.{Value, Refused}
+
+abbrev pub outcome : Number → Outcome ℕ
+outcome (Value x) = given x
+outcome (Refused why) = refused (numberOf why)

@@ -1,0 +1,25 @@
+-- The internal symbol id of an encoding symbol id (RFC 6330 section 5.3.1; document 01, 'Tuple and indices').
+-- Assumes nothing.
+use mathlib.Core.Bool.{not}
+use Prim.Native.Nat.{ℕ, _+_, _-_}
+use lib.Dec.{leb, ltb}
+use Rattle.field.specs.Choice.{pick}
+use Rattle.field.specs.Answer.{Outcome, given, refused, numberOf, unless}
+use Rattle.headers.specs.Row.{obeys, between}
+use Rattle.headers.specs.declared.row.Row.{Row}
+use Rattle.headers.specs.declared.ids.Isi.{Isi}
+use Rattle.headers.specs.declared.ids.Shifted.{Shifted}
+use Rattle.headers.specs.declared.ids.Shifted.the-variants.{Value, Refused}
+
+-- below K the same; from K on, K' - K more
+abbrev pub shifted : ℕ → ℕ → ℕ → ℕ
+shifted esi k kp = pick (ltb esi k) esi (esi + (kp - k))
+
+-- what the shift answers
+abbrev pub asked : Row → ℕ → ℕ → Outcome ℕ
+asked r k esi =
+    unless (not (obeys r)) 4 (unless (leb 16777216 esi) 9 (unless (not (between 1 k (r .k))) 9 (given (shifted esi k (r .k)))))
+
+abbrev pub outcome : Shifted → Outcome ℕ
+outcome (Value i) = given (i .0)
+outcome (Refused why) = refused (numberOf why)

@@ -1,0 +1,35 @@
+// Tuple[K', X] of RFC 6330 section 5.3.5.4 (base.rs of the crate), of an internal symbol id X of any 32 bits.
+ghost use mathlib.Core.Path.{_≡_};
+ghost use Rattle.headers.specs.Tuples.{asked, outcome};
+use crate::beneath;
+use crate::ids::Isi;
+use crate::row;
+use crate::row::Checked;
+use crate::row::Row;
+use field::refusal::Refusal;
+
+pub struct Tuple {
+    pub d: u32,
+    pub a: u32,
+    pub b: u32,
+    pub d1: u32,
+    pub a1: u32,
+    pub b1: u32,
+}
+
+pub enum Generated {
+    Value(Tuple),
+    Refused(Refusal),
+}
+
+pub fn intermediate_tuple(r: Row, tables: &[u32], x: Isi) -> Generated
+    ensures { λ t. ⌜ outcome t ≡ asked r (now (tables .entry)) (x .0) ⌝ }
+{
+    let Checked::Value(z) = row::check(r) else {
+        return Generated::Refused(Refusal::BadRow);
+    };
+    if tables.len() != 1024 {
+        return Generated::Refused(Refusal::BadTables);
+    }
+    Generated::Value(beneath::tuple::intermediate_tuple(tables, x, r.w, r.j, z.p1))
+}

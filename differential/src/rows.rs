@@ -1,0 +1,82 @@
+//! Parameter rows for the harness: the published ones, made-up ones, and the rules and numbers of document 01 in plain Rust.
+use crate::Random;
+use crate::archive::Row;
+use raptorq::systematic_constants as constants;
+
+pub fn is_prime(n: u32) -> bool {
+    n >= 2 && (2..).take_while(|d| d * d <= n).all(|d| n % d != 0)
+}
+
+/// L, P, B and P1 of a row that keeps the rules.
+pub fn sizes([k, j, s, h, w]: Row) -> Option<[u32; 4]> {
+    let fits = [k, j, s, h, w].iter().all(|n| *n < 65536)
+        && (1..=56403).contains(&k)
+        && s % 2 == 1
+        && s >= 3
+        && (2..=255).contains(&h)
+        && is_prime(w)
+        && w > s
+        && k + s + h >= w + 3
+        && (w - s).div_ceil(s) < s
+        && k + s + h <= 65535;
+    let p = (k + s + h).wrapping_sub(w);
+    fits.then(|| [k + s + h, p, w - s, (p..).find(|n| is_prime(*n)).unwrap()])
+}
+
+/// The 477 rows of RFC 6330, Table 2, as the crate has them.
+pub fn published() -> Vec<Row> {
+    constants::SYSTEMATIC_INDICES_AND_PARAMETERS.iter().map(|&(k, j, s, h, w)| [k, j, s, h, w]).collect()
+}
+
+/// What the crate gives for a published row.
+pub fn published_sizes([k, _, s, _, w]: Row) -> [u64; 4] {
+    [constants::num_intermediate_symbols(k), constants::num_pi_symbols(k), w - s, constants::calculate_p1(k)].map(u64::from)
+}
+
+/// Any row: most are near the edge of one rule.
+pub fn made_up(random: &mut Random) -> Row {
+    let mut row = match random.below(3) {
+        0 => accepted(random),
+        1 => published()[random.below(477) as usize],
+        _ => [(); 5].map(|()| random.below(70000) as u32),
+    };
+    for _ in 0..random.below(3) {
+        let n = &mut row[random.below(5) as usize];
+        *n = match random.below(4) {
+            0 => n.wrapping_add(1),
+            1 => n.wrapping_sub(1),
+            2 => random.below(10) as u32,
+            _ => random.word() as u32 >> random.below(32),
+        };
+    }
+    row
+}
+
+/// A small row that is accepted.
+pub fn accepted(random: &mut Random) -> Row {
+    loop {
+        let s = 3 + 2 * random.below(20) as u32;
+        let k = 1 + random.below(300) as u32;
+        let h = 2 + random.below(20) as u32;
+        let w = s + 1 + random.below(u64::from(k + h)) as u32;
+        let row = [k, random.below(65536) as u32, s, h, w];
+        if sizes(row).is_some() {
+            return row;
+        }
+    }
+}
+
+/// RFC 6330, 5.3.5.1, with the sums modulo 256 that the crate's overflow checks do not let it take.
+pub fn rand(tables: &[u32], y: u32, i: u8, m: u32) -> u32 {
+    let parts = y.to_le_bytes().into_iter().enumerate();
+    parts.fold(0, |x, (part, byte)| x ^ tables[256 * part + byte.wrapping_add(i) as usize]) % m
+}
+
+/// RFC 6330, 5.3.5.4, over that `rand`.
+pub fn tuple([_, j, _, _, w]: Row, p1: u32, tables: &[u32], x: u32) -> [u32; 6] {
+    let a = (53591 + 997 * j) | 1;
+    let y = (10267 * (j + 1)).wrapping_add(x.wrapping_mul(a));
+    let d = raptorq::base::deg(rand(tables, y, 0, 1 << 20), w);
+    let d1 = if d < 4 { 2 + rand(tables, x, 3, 2) } else { 2 };
+    [d, 1 + rand(tables, y, 1, w - 1), rand(tables, y, 2, w), d1, 1 + rand(tables, x, 4, p1 - 1), rand(tables, x, 5, p1)]
+}
