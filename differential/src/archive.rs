@@ -10,6 +10,19 @@ unsafe extern "C" {
     fn spoonripple_octet_div(a: u8, by: u8, out: *mut u64, room: usize) -> u32;
     fn spoonripple_octet_fma(a: u8, b: u8, c: u8, out: *mut u64, room: usize) -> u32;
     fn spoonripple_octet_alpha(i: usize, out: *mut u64, room: usize) -> u32;
+    fn spoonripple_payload_id_read(bytes: *const u8, len: usize, out: *mut u64, room: usize) -> u32;
+    fn spoonripple_payload_id_write(sbn: u8, esi: u32, store: *mut u8, room: usize) -> u32;
+    fn spoonripple_transmission_read(bytes: *const u8, len: usize, out: *mut u64, room: usize) -> u32;
+    fn spoonripple_transmission_write(f: u64, t: u16, z: u8, n: u16, al: u8, store: *mut u8, room: usize) -> u32;
+    fn spoonripple_transmission_check(f: u64, t: u16, z: u8, n: u16, al: u8) -> u32;
+    fn spoonripple_packet_read(bytes: *const u8, len: usize, out: *mut u64, room: usize) -> u32;
+    fn spoonripple_packet_write(sbn: u8, esi: u32, payload: *const u8, len: usize, store: *mut u8, room: usize) -> u32;
+    fn spoonripple_partition(i: u32, j: u32, out: *mut u64, room: usize) -> u32;
+    fn spoonripple_deg(v: u32, w: u32, out: *mut u64, room: usize) -> u32;
+    fn spoonripple_rand(tables: *const u32, len: usize, y: u32, i: u8, m: u32, out: *mut u64, room: usize) -> u32;
+    fn spoonripple_row_check(k: u32, j: u32, s: u32, h: u32, w: u32, out: *mut u64, room: usize) -> u32;
+    fn spoonripple_isi(k: u32, j: u32, s: u32, h: u32, w: u32, count: u32, esi: u32, out: *mut u64, room: usize) -> u32;
+    fn spoonripple_tuple(k: u32, j: u32, s: u32, h: u32, w: u32, tables: *const u32, len: usize, isi: u32, out: *mut u64, room: usize) -> u32;
     fn spoonripple_run_add(dst: *mut u8, dst_len: usize, src: *const u8, src_len: usize) -> u32;
     fn spoonripple_run_scale(dst: *mut u8, dst_len: usize, c: u8) -> u32;
     fn spoonripple_run_fma(dst: *mut u8, dst_len: usize, src: *const u8, src_len: usize, c: u8) -> u32;
@@ -18,6 +31,9 @@ unsafe extern "C" {
 fn done(code: u32) -> Answer<()> {
     if code == 0 { Ok(()) } else { Err(code) }
 }
+
+/// K', J, S, H, W.
+pub type Row = [u32; 5];
 
 /// `room` is how many places the store for values has; the calls below take any.
 macro_rules! octet_call {
@@ -44,4 +60,56 @@ pub fn run_scale(dst: &mut [u8], c: u8) -> Answer<()> {
 
 pub fn run_fma(dst: &mut [u8], src: &[u8], c: u8) -> Answer<()> {
     done(unsafe { spoonripple_run_fma(dst.as_mut_ptr(), dst.len(), src.as_ptr(), src.len(), c) })
+}
+
+pub fn payload_id_read(bytes: &[u8], out: &mut [u64]) -> Answer<()> {
+    done(unsafe { spoonripple_payload_id_read(bytes.as_ptr(), bytes.len(), out.as_mut_ptr(), out.len()) })
+}
+
+pub fn payload_id_write(sbn: u8, esi: u32, store: &mut [u8]) -> Answer<()> {
+    done(unsafe { spoonripple_payload_id_write(sbn, esi, store.as_mut_ptr(), store.len()) })
+}
+
+pub fn transmission_read(bytes: &[u8], out: &mut [u64]) -> Answer<()> {
+    done(unsafe { spoonripple_transmission_read(bytes.as_ptr(), bytes.len(), out.as_mut_ptr(), out.len()) })
+}
+
+pub fn transmission_write(f: u64, t: u16, z: u8, n: u16, al: u8, store: &mut [u8]) -> Answer<()> {
+    done(unsafe { spoonripple_transmission_write(f, t, z, n, al, store.as_mut_ptr(), store.len()) })
+}
+
+pub fn transmission_check(f: u64, t: u16, z: u8, n: u16, al: u8) -> Answer<()> {
+    done(unsafe { spoonripple_transmission_check(f, t, z, n, al) })
+}
+
+pub fn packet_read(bytes: &[u8], out: &mut [u64]) -> Answer<()> {
+    done(unsafe { spoonripple_packet_read(bytes.as_ptr(), bytes.len(), out.as_mut_ptr(), out.len()) })
+}
+
+pub fn packet_write(sbn: u8, esi: u32, payload: &[u8], store: &mut [u8]) -> Answer<()> {
+    done(unsafe { spoonripple_packet_write(sbn, esi, payload.as_ptr(), payload.len(), store.as_mut_ptr(), store.len()) })
+}
+
+pub fn partition(i: u32, j: u32, out: &mut [u64]) -> Answer<()> {
+    done(unsafe { spoonripple_partition(i, j, out.as_mut_ptr(), out.len()) })
+}
+
+pub fn deg(v: u32, w: u32, out: &mut [u64]) -> Answer<()> {
+    done(unsafe { spoonripple_deg(v, w, out.as_mut_ptr(), out.len()) })
+}
+
+pub fn rand(tables: &[u32], y: u32, i: u8, m: u32, out: &mut [u64]) -> Answer<()> {
+    done(unsafe { spoonripple_rand(tables.as_ptr(), tables.len(), y, i, m, out.as_mut_ptr(), out.len()) })
+}
+
+pub fn row_check([k, j, s, h, w]: Row, out: &mut [u64]) -> Answer<()> {
+    done(unsafe { spoonripple_row_check(k, j, s, h, w, out.as_mut_ptr(), out.len()) })
+}
+
+pub fn isi([k, j, s, h, w]: Row, count: u32, esi: u32, out: &mut [u64]) -> Answer<()> {
+    done(unsafe { spoonripple_isi(k, j, s, h, w, count, esi, out.as_mut_ptr(), out.len()) })
+}
+
+pub fn tuple([k, j, s, h, w]: Row, tables: &[u32], isi: u32, out: &mut [u64]) -> Answer<()> {
+    done(unsafe { spoonripple_tuple(k, j, s, h, w, tables.as_ptr(), tables.len(), isi, out.as_mut_ptr(), out.len()) })
 }

@@ -1,6 +1,10 @@
 //! The two sides: our archive (`archive`) and the published crate (`raptorq`), and what a comparison of them needs.
+use std::cell::Cell;
+use std::sync::Once;
+
 pub mod archive;
 pub mod report;
+pub mod rows;
 
 /// A small generator of its own (xorshift64*), so that a seed gives the same cases on every machine.
 pub struct Random(u64);
@@ -27,7 +31,39 @@ impl Random {
     }
 }
 
-/// What the crate gives, or None where it panics. The harness silences the panic's message.
+/// What stands in a store where a call should leave it alone.
+const UNTOUCHED: u64 = 0xA5A5_A5A5_A5A5_A5A5;
+
+/// The n values that a call answers, given room for them and one place more. A call that writes past them, or that refuses and has written,
+/// is a fault of ours: it ends the run.
+pub fn values(n: usize, call: impl FnOnce(&mut [u64]) -> archive::Answer<()>) -> archive::Answer<Vec<u64>> {
+    let mut store = vec![UNTOUCHED; n + 2];
+    let answer = call(&mut store[..n + 1]);
+    let written = if answer.is_ok() { n } else { 0 };
+    if store[written..].iter().any(|x| *x != UNTOUCHED) {
+        println!("a call wrote where it should not: {store:?}");
+        std::process::exit(1);
+    }
+    store.truncate(n);
+    answer.map(|()| store)
+}
+
+/// That a call which needs room for n values refuses by this number with room, and, where 8 comes later than the number, without.
+pub fn refused_untouched(number: u32, n: usize, call: impl Fn(&mut [u64]) -> archive::Answer<()>) -> bool {
+    values(n, &call) == Err(number) && call(&mut []) == Err(number)
+}
+
+std::thread_local! { static CAUGHT: Cell<bool> = const { Cell::new(false) }; }
+
+/// What the crate gives, or None where it panics. A panic of the harness itself still says what it is.
 pub fn caught<T>(call: impl FnOnce() -> T) -> Option<T> {
-    std::panic::catch_unwind(std::panic::AssertUnwindSafe(call)).ok()
+    static QUIET: Once = Once::new();
+    QUIET.call_once(|| {
+        let loud = std::panic::take_hook();
+        std::panic::set_hook(Box::new(move |said| if !CAUGHT.get() { loud(said) }));
+    });
+    CAUGHT.set(true);
+    let given = std::panic::catch_unwind(std::panic::AssertUnwindSafe(call)).ok();
+    CAUGHT.set(false);
+    given
 }

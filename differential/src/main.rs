@@ -1,15 +1,15 @@
 //! `differential AREA [COUNT] [SEED]`: see the script `run` beside this folder.
 mod field;
+mod headers;
 
 fn main() {
-    std::panic::set_hook(Box::new(|_| {}));
     let words: Vec<String> = std::env::args().skip(1).collect();
     let number = |at: usize, default: u64| words.get(at).map_or(Ok(default), |w| w.parse());
     let (Some(area), Ok(count), Ok(seed)) = (words.first(), number(1, 1_000_000), number(2, 1)) else {
         eprintln!("usage: run AREA [COUNT] [SEED]");
         std::process::exit(2);
     };
-    let areas: [(&str, fn(u64, u64) -> bool); 1] = [("field", field::run)];
+    let areas: [(&str, fn(u64, u64) -> bool); 2] = [("field", field::run), ("headers", headers::run)];
     let mut ran = false;
     let mut same = true;
     for (name, run) in areas {

@@ -19,8 +19,10 @@ pub fn sizes([k, j, s, h, w]: Row) -> Option<[u32; 4]> {
         && k + s + h >= w + 3
         && (w - s).div_ceil(s) < s
         && k + s + h <= 65535;
-    let p = (k + s + h).wrapping_sub(w);
-    fits.then(|| [k + s + h, p, w - s, (p..).find(|n| is_prime(*n)).unwrap()])
+    fits.then(|| {
+        let p = k + s + h - w;
+        [k + s + h, p, w - s, (p..).find(|n| is_prime(*n)).unwrap()]
+    })
 }
 
 /// The 477 rows of RFC 6330, Table 2, as the crate has them.

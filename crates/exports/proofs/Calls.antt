@@ -6,27 +6,55 @@ use mathlib.Core.List.{List}
 use Prim.Native.Nat.{ℕ, _<_, _≤_}
 use borrow.Author.Tests.{lt-ltb, le-ltb}
 use lib.ListN.{length}
-use Rattle.field.specs.Answer.{Outcome, refused}
+use Rattle.field.specs.Answer.{Outcome, given, refused}
 use Rattle.field.proofs.Writing.{written-once}
-use Rattle.exports.specs.Call.{Called, one, roomed, Ran}
+use Rattle.headers.specs.Headers.{Stores, writingOutcome}
+use Rattle.headers.specs.declared.writing.Writing.{Writing}
+use Rattle.headers.specs.declared.writing.Writing.the-variants as Writings
+use Rattle.exports.specs.Call.{code, Kept, Called, roomed, thenRoomed, listed, Ran}
+
+kept-once : (o : Outcome (List ℕ)) (out m n : List ℕ) → Kept o out m → Kept o out n → m ≡ n
+kept-once (given vs) out m n u w = written-once u w
+kept-once (refused k) out m n u w = u ∙ sym w
 
 pub called-once : {o : Outcome (List ℕ)} {out m n : List ℕ} {q r : ℕ} → Called o out m q → Called o out n r → (q ≡ r) × (m ≡ n)
-called-once u w = (u .answer ∙ sym (w .answer), u .memory ∙ sym (w .memory))
+called-once {o} {out} {m} {n} u w = (u .answer ∙ sym (w .answer), kept-once o out m n (u .memory) (w .memory))
 
 pub ran-once : (t : Bool) (f : ℕ → ℕ) (xs ys zs : List ℕ) (q r : ℕ) → Ran t f xs ys q → Ran t f xs zs r → (q ≡ r) × (ys ≡ zs)
 ran-once true f xs ys zs q r u w = (u .0 ∙ sym (w .0), written-once (u .1) (w .1))
 ran-once false f xs ys zs q r u w = (u .0 ∙ sym (w .0), u .1 ∙ sym (w .1))
-
--- the outcome is another name for what the callee found
-pub called-as : {o p : Outcome (List ℕ)} {out now : List ℕ} {r : ℕ} → o ≡ p → Called o out now r → Called p out now r
-called-as {o} {p} {out} {now} {r} e w = subst (λ (x : Outcome (List ℕ)). Called x out now r) e w
-
--- a refusal of the layer below is handed on, and nothing is written
-pub called-refused : {d : Outcome ℕ} {n r : ℕ} (out : List ℕ) → refused n ≡ d → r ≡ n → Called (one d) out out r
-called-refused {d} {n} {r} out e q = subst (λ (x : Outcome ℕ). Called (one x) out out r) e (record { answer = q; memory = refl })
 
 pub called-short : (o : Outcome (List ℕ)) (out : List ℕ) (n : ℕ) → length out < n → Called (roomed out n o) out out 8
 called-short o out n h = rw (lt-ltb (length out) n h) (record { answer = refl; memory = refl })
 
 pub called-roomed : {o : Outcome (List ℕ)} {now : List ℕ} {r : ℕ} (out : List ℕ) (n : ℕ) → n ≤ length out → Called o out now r → Called (roomed out n o) out now r
 called-roomed out n h w = rw (le-ltb (length out) n h) w
+
+-- What the layer below answered: o is what its contract says, and the match found a value or a refusal there.
+pub called-as : {A : Type 0} (F : A → Outcome (List ℕ)) {o p : A} {out now : List ℕ} {r : ℕ} → p ≡ o → Called (F p) out now r → Called (F o) out now r
+called-as {A} F {o} {p} {out} {now} {r} e w = subst (λ (x : A). Called (F x) out now r) e w
+
+module _ {A : Type 0} (f : A → List ℕ) {o : Outcome A} {out now : List ℕ} {r : ℕ} where
+  -- a value is handed over, if there is room
+  pub called-given : {x : A} → given x ≡ o → Called (thenRoomed out (given (f x))) out now r → Called (thenRoomed out (listed f o)) out now r
+  called-given e w = called-as (λ (p : Outcome A). thenRoomed out (listed f p)) e w
+
+  -- a refusal is handed on, and nothing is written
+  pub called-refused : {n : ℕ} → refused n ≡ o → r ≡ n → now ≡ out → Called (thenRoomed out (listed f o)) out now r
+  called-refused e q z = called-as (λ (p : Outcome A). thenRoomed out (listed f p)) e (record { answer = q; memory = z })
+
+  -- the same, where room was asked for first
+  pub called-first : (n : ℕ) {x : A} → given x ≡ o → Called (roomed out n (given (f x))) out now r → Called (roomed out n (listed f o)) out now r
+  called-first n e w = called-as (λ (p : Outcome A). roomed out n (listed f p)) e w
+
+  pub called-late : {n : ℕ} → refused n ≡ o → r ≡ n → now ≡ out → Called (listed f o) out now r
+  called-late e q z = called-as (listed f) e (record { answer = q; memory = z })
+
+-- a writer of the layer below told its answer w, and left the store as its contract says
+pub called-stored : {o : Outcome (Unit {0})} {bs xs ys : List ℕ} {w : Writing} {r : ℕ} → Stores o bs xs ys w → r ≡ code (writingOutcome w)
+    → Called (listed (λ (_ : Unit {0}). bs) o) xs ys r
+called-stored {o} {bs} {xs} {ys} {w} {r} s q = subst (λ (p : Outcome (Unit {0})). Called (listed (λ (_ : Unit {0}). bs) p) xs ys r) (s .answer) (go w s q)
+  where
+    go : (w : Writing) → Stores o bs xs ys w → r ≡ code (writingOutcome w) → Called (listed (λ (_ : Unit {0}). bs) (writingOutcome w)) xs ys r
+    go Writings.Done s q = record { answer = q; memory = s .memory }
+    go (Writings.Refused why) s q = record { answer = q; memory = s .memory }

@@ -3,44 +3,43 @@
 use mathlib.Core.Path.{_≡_}
 use mathlib.Core.Bool.{Bool, true, false}
 use mathlib.Core.List.{List, [], _∷_}
-use Prim.Native.Nat.{ℕ, suc}
+use Prim.Native.Nat.{ℕ}
 use lib.Dec.{ltb}
-use lib.ListN.{length, set}
+use lib.ListN.{length, getD}
 use Rattle.field.specs.Answer.{Outcome, given, refused, unless}
 use Rattle.field.specs.Runs.{Written}
 
--- 0 where there are values, else the refusal's number
-abbrev pub code : Outcome (List ℕ) → ℕ
-code (given vs) = 0
+-- 0 where the call was done, else the refusal's number
+abbrev pub code : {A : Type 0} → Outcome A → ℕ
+code (given x) = 0
 code (refused n) = n
 
--- the values, one after the other from place i on
-abbrev pub put : ℕ → List ℕ → List ℕ → List ℕ
-put i [] out = out
-put i (v ∷ vs) out = put (suc i) vs (set out i v)
+-- the values stand at the front of the slice, or nothing was written
+abbrev pub Kept : Outcome (List ℕ) → List ℕ → List ℕ → Type 0
+Kept (given vs) out now = Written (λ k. getD vs k 0) out now 0 (length vs)
+Kept (refused n) out now = now ≡ out
 
-abbrev pub stored : Outcome (List ℕ) → List ℕ → List ℕ
-stored (given vs) out = put 0 vs out
-stored (refused n) out = out
-
--- a call answered r and made now of the slice out
+-- a call answered r and made `now` of the slice `out`
 pub record Called (o : Outcome (List ℕ)) (out now : List ℕ) (r : ℕ) : Type 0 where
   pub answer : r ≡ code o
-  pub memory : now ≡ stored o out
+  pub memory : Kept o out now
 
--- a call whose values need n places: 8 without them
+-- a call whose values need n places: 8 without them, before its own refusals
 abbrev pub roomed : List ℕ → ℕ → Outcome (List ℕ) → Outcome (List ℕ)
 roomed out n o = unless (ltb (length out) n) 8 o
 
--- an outcome of one number
-abbrev pub one : Outcome ℕ → Outcome (List ℕ)
-one (given x) = given (x ∷ [])
-one (refused n) = refused n
-
--- the same, where the call's own refusal comes before the room
-abbrev pub thenRoomed : List ℕ → Outcome ℕ → Outcome (List ℕ)
-thenRoomed out (given x) = roomed out 1 (given (x ∷ []))
+-- the same, after its own refusals
+abbrev pub thenRoomed : List ℕ → Outcome (List ℕ) → Outcome (List ℕ)
+thenRoomed out (given vs) = roomed out (length vs) (given vs)
 thenRoomed out (refused n) = refused n
+
+-- an outcome, as the numbers that are handed over
+abbrev pub listed : {A : Type 0} → (A → List ℕ) → Outcome A → Outcome (List ℕ)
+listed f (given x) = given (f x)
+listed f (refused n) = refused n
+
+abbrev pub one : ℕ → List ℕ
+one x = x ∷ []
 
 -- a call on a run xs, which is now ys: done, or refused for its length
 abbrev pub Ran : Bool → (ℕ → ℕ) → List ℕ → List ℕ → ℕ → Type 0

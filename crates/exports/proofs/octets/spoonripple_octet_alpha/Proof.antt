@@ -2,9 +2,9 @@
 -- Assumes nothing.
 use mathlib.Core.Path.{refl, sym, ap, _∙_}
 use borrow.Author.Needs.{needs}
+use Rattle.exports.proofs.Calls.{called-given, called-refused}
+use Rattle.exports.specs.Call.{one}
 use Rattle.field.specs.Answer.{outcome}
-use Rattle.exports.specs.Call.{thenRoomed}
-use Rattle.exports.proofs.Calls.{called-as}
 use Rattle.exports.proofs.octets.spoonripple_octet_alpha.Statement.{statement}
 use Rattle.exports.proofs.octets.spoonripple_octet_alpha.Tie as tie
 
@@ -14,8 +14,8 @@ alpha-requires c κs = search needs
 enum-known-x : tie.Need-enum-known-x
 enum-known-x c = search needs
 
-hand-requires : tie.Need-hand-requires
-hand-requires c κs = search needs
+hand-one-requires : tie.Need-hand-one-requires
+hand-one-requires c κs = search needs
 
 enum-known-why : tie.Need-enum-known-why
 enum-known-why c = search needs
@@ -29,13 +29,12 @@ same-length c = search needs
 returns : tie.Need-returns
 returns c =
     let found = c .before .before .before .before .before in
-    called-as (ap (thenRoomed _) (sym (ap outcome (found .x .given .1)) ∙ found .before .before .alpha .ensures)) (c .before .before .hand .ensures)
+    called-given one (sym (ap outcome (found .x .given .1)) ∙ found .before .before .alpha .ensures) (c .before .before .hand-one .ensures)
 
 returns-2 : tie.Need-returns-2
 returns-2 c =
     let found = c .before .before in
-    called-as (ap (thenRoomed _) (sym (ap outcome (found .why .given .1)) ∙ found .before .before .alpha .ensures))
-    (record { answer = c .number .ensures; memory = refl })
+    called-refused one (sym (ap outcome (found .why .given .1)) ∙ found .before .before .alpha .ensures) (c .number .ensures) refl
 
 pub spoonripple-octet-alpha-spec : {M : Type 1} → statement M
 spoonripple-octet-alpha-spec =
@@ -43,7 +42,7 @@ spoonripple-octet-alpha-spec =
     (tie.spec
     alpha-requires
     enum-known-x
-    hand-requires
+    hand-one-requires
     enum-known-why
     number-requires
     same-length

@@ -1,10 +1,10 @@
--- `exports::octets::spoonripple_octet_div` meets its contract: it hands over what `octet::div` gives, or its refusal.
+-- `exports::octets::spoonripple_octet_div` meets its contract: room first, then what `octet::div` answers.
 -- Assumes nothing.
-use mathlib.Core.Path.{sym, ap, _∙_}
+use mathlib.Core.Path.{refl, sym, ap, _∙_}
 use borrow.Author.Needs.{needs}
-use Rattle.field.specs.Answer.{outcome}
+use Rattle.exports.proofs.Calls.{called-first, called-late, called-short, called-roomed}
 use Rattle.exports.specs.Call.{one}
-use Rattle.exports.proofs.Calls.{called-as, called-refused, called-short, called-roomed}
+use Rattle.field.specs.Answer.{outcome}
 use Rattle.exports.proofs.octets.spoonripple_octet_div.Statement.{statement}
 use Rattle.exports.proofs.octets.spoonripple_octet_div.Tie as tie
 
@@ -17,8 +17,8 @@ div-requires c κs = search needs
 enum-known-x : tie.Need-enum-known-x
 enum-known-x c = search needs
 
-hand-requires : tie.Need-hand-requires
-hand-requires c κs = search needs
+hand-one-requires : tie.Need-hand-one-requires
+hand-one-requires c κs = search needs
 
 enum-known-why : tie.Need-enum-known-why
 enum-known-why c = search needs
@@ -32,13 +32,13 @@ same-length c = search needs
 returns-2 : tie.Need-returns-2
 returns-2 c =
     let found = c .before .before .before .before .before in
-    called-as (rw (ap one (sym (ap outcome (found .x .given .1)) ∙ found .before .before .div .ensures))) (c .before .before .hand .ensures)
+    called-first one 1 (sym (ap outcome (found .x .given .1)) ∙ found .before .before .div .ensures) (c .before .before .hand-one .ensures)
 
 returns-3 : tie.Need-returns-3
 returns-3 c =
     let found = c .before .before in
     called-roomed _ 1 (found .before .before .before .if1 .left)
-    (called-refused _ (sym (ap outcome (found .why .given .1)) ∙ found .before .before .div .ensures) (c .number .ensures))
+    (called-late one (sym (ap outcome (found .why .given .1)) ∙ found .before .before .div .ensures) (c .number .ensures) refl)
 
 pub spoonripple-octet-div-spec : {M : Type 1} → statement M
 spoonripple-octet-div-spec =
@@ -47,7 +47,7 @@ spoonripple-octet-div-spec =
     returns
     div-requires
     enum-known-x
-    hand-requires
+    hand-one-requires
     enum-known-why
     number-requires
     same-length

@@ -7,14 +7,15 @@ use Rattle.exports.proofs.octets.spoonripple_octet_mul.Tie as tie
 mul-requires : tie.Need-mul-requires
 mul-requires c κs = search needs
 
-hand-requires : tie.Need-hand-requires
-hand-requires c κs = search needs
+hand-one-requires : tie.Need-hand-one-requires
+hand-one-requires c κs = search needs
 
 same-length : tie.Need-same-length
 same-length c = search needs
 
 returns : tie.Need-returns
-returns c = rw (← c .before .before .before .before .mul .ensures) (c .before .before .hand .ensures)
+returns c = rw (← c .before .before .before .before .mul .ensures) (c .before .before .hand-one .ensures)
 
 pub spoonripple-octet-mul-spec : {M : Type 1} → statement M
-spoonripple-octet-mul-spec = tie.close (tie.spec mul-requires hand-requires same-length returns)
+spoonripple-octet-mul-spec =
+    tie.close (tie.spec mul-requires hand-one-requires same-length returns)

@@ -7,14 +7,15 @@ use Rattle.exports.proofs.octets.spoonripple_octet_sub.Tie as tie
 sub-requires : tie.Need-sub-requires
 sub-requires c κs = search needs
 
-hand-requires : tie.Need-hand-requires
-hand-requires c κs = search needs
+hand-one-requires : tie.Need-hand-one-requires
+hand-one-requires c κs = search needs
 
 same-length : tie.Need-same-length
 same-length c = search needs
 
 returns : tie.Need-returns
-returns c = rw (← c .before .before .before .before .sub .ensures) (c .before .before .hand .ensures)
+returns c = rw (← c .before .before .before .before .sub .ensures) (c .before .before .hand-one .ensures)
 
 pub spoonripple-octet-sub-spec : {M : Type 1} → statement M
-spoonripple-octet-sub-spec = tie.close (tie.spec sub-requires hand-requires same-length returns)
+spoonripple-octet-sub-spec =
+    tie.close (tie.spec sub-requires hand-one-requires same-length returns)

@@ -1,0 +1,62 @@
+-- `exports::packets::spoonripple_packet_read` meets its contract: it hands over what `packet::deserialize` gives, or its refusal.
+-- Assumes nothing.
+use mathlib.Core.Path.{refl, sym, ap, _∙_}
+use borrow.Author.Needs.{needs}
+use Rattle.exports.proofs.Calls.{called-given, called-refused}
+use Rattle.exports.specs.Numbers.{packetNumbers}
+use Rattle.headers.specs.Headers.{packetOutcome}
+use Rattle.exports.proofs.packets.spoonripple_packet_read.Statement.{statement}
+use Rattle.exports.proofs.packets.spoonripple_packet_read.Tie as tie
+
+deserialize-requires : tie.Need-deserialize-requires
+deserialize-requires c κs = search needs
+
+enum-known-payload-id : tie.Need-enum-known-payload-id
+enum-known-payload-id c = search needs
+
+cast-t10 : tie.Need-cast-t10
+cast-t10 c = search needs
+
+cast-t11 : tie.Need-cast-t11
+cast-t11 c = search needs
+
+slice-aggregate-hand : tie.Need-slice-aggregate-hand
+slice-aggregate-hand c = search needs
+
+hand-requires : tie.Need-hand-requires
+hand-requires c κs = search needs
+
+enum-known-why : tie.Need-enum-known-why
+enum-known-why c = search needs
+
+number-requires : tie.Need-number-requires
+number-requires c κs = search needs
+
+same-length : tie.Need-same-length
+same-length c = search needs
+
+returns : tie.Need-returns
+returns c =
+    let found = c .before .before .before .before .before .before .before .before in
+    called-given packetNumbers (sym (ap packetOutcome (found .payload-id .given .1)) ∙ found .before .before .deserialize .ensures) (c .before .before .hand .ensures)
+
+returns-2 : tie.Need-returns-2
+returns-2 c =
+    let found = c .before .before in
+    called-refused packetNumbers (sym (ap packetOutcome (found .why .given .1)) ∙ found .before .before .deserialize .ensures) (c .number .ensures) refl
+
+pub spoonripple-packet-read-spec : {M : Type 1} → statement M
+spoonripple-packet-read-spec =
+    tie.close
+    (tie.spec
+    deserialize-requires
+    enum-known-payload-id
+    cast-t10
+    cast-t11
+    slice-aggregate-hand
+    hand-requires
+    enum-known-why
+    number-requires
+    same-length
+    returns
+    returns-2)

@@ -1,0 +1,22 @@
+-- `exports::packets::spoonripple_transmission_write` meets its contract: it tells what `transmission::serialize` answered.
+-- Assumes nothing.
+use borrow.Author.Needs.{needs}
+use Rattle.exports.proofs.Calls.{called-stored}
+use Rattle.exports.proofs.packets.spoonripple_transmission_write.Statement.{statement}
+use Rattle.exports.proofs.packets.spoonripple_transmission_write.Tie as tie
+
+serialize-requires : tie.Need-serialize-requires
+serialize-requires c κs = search needs
+
+told-requires : tie.Need-told-requires
+told-requires c κs = search needs
+
+same-length : tie.Need-same-length
+same-length c = search needs
+
+returns : tie.Need-returns
+returns c = called-stored (c .before .before .before .serialize .ensures) (c .told .ensures)
+
+pub spoonripple-transmission-write-spec : {M : Type 1} → statement M
+spoonripple-transmission-write-spec =
+    tie.close (tie.spec serialize-requires told-requires same-length returns)

@@ -1,0 +1,62 @@
+-- `exports::tuples::spoonripple_isi` meets its contract: it hands over what `ids::isi_of` gives, or its refusal.
+-- Assumes nothing.
+use mathlib.Core.Path.{refl, sym, ap, _∙_}
+use borrow.Author.Needs.{needs}
+use Rattle.exports.proofs.Calls.{called-given, called-refused}
+use Rattle.exports.specs.Call.{one}
+use Rattle.headers.specs.Shift.{outcome}
+use Rattle.exports.proofs.tuples.spoonripple_isi.Statement.{statement}
+use Rattle.exports.proofs.tuples.spoonripple_isi.Tie as tie
+
+isi-of-requires : tie.Need-isi-of-requires
+isi-of-requires c κs = search needs
+
+enum-known-x : tie.Need-enum-known-x
+enum-known-x c = search needs
+
+number-requires : tie.Need-number-requires
+number-requires c κs = search needs
+
+cast-t17 : tie.Need-cast-t17
+cast-t17 c = search needs
+
+slice-aggregate-hand : tie.Need-slice-aggregate-hand
+slice-aggregate-hand c = search needs
+
+hand-requires : tie.Need-hand-requires
+hand-requires c κs = search needs
+
+enum-known-why : tie.Need-enum-known-why
+enum-known-why c = search needs
+
+number-requires-2 : tie.Need-number-requires-2
+number-requires-2 c κs = search needs
+
+same-length : tie.Need-same-length
+same-length c = search needs
+
+returns : tie.Need-returns
+returns c =
+    let found = c .before .before .before .before .before .before .before in
+    called-given one (sym (ap outcome (found .x .given .1)) ∙ found .before .before .isi-of .ensures) (rw (c .before .before .before .before .before .number .ensures) at (c .before .before .hand .ensures))
+
+returns-2 : tie.Need-returns-2
+returns-2 c =
+    let found = c .before .before in
+    called-refused one (sym (ap outcome (found .why .given .1)) ∙ found .before .before .isi-of .ensures) (c .number2 .ensures) refl
+
+pub spoonripple-isi-spec : {M : Type 1} → statement M
+spoonripple-isi-spec =
+    tie.close
+    (tie.spec
+    isi-of-requires
+    enum-known-x
+    number-requires
+    cast-t17
+    slice-aggregate-hand
+    hand-requires
+    enum-known-why
+    number-requires-2
+    same-length
+    returns
+    returns-2)

@@ -1,0 +1,70 @@
+-- `exports::tuples::spoonripple_row_check` meets its contract: it hands over what `row::check` gives, or its refusal.
+-- Assumes nothing.
+use mathlib.Core.Path.{refl, sym, ap, _∙_}
+use borrow.Author.Needs.{needs}
+use Rattle.exports.proofs.Calls.{called-given, called-refused}
+use Rattle.exports.specs.Numbers.{sizeNumbers}
+use Rattle.headers.specs.Row.{outcome}
+use Rattle.exports.proofs.tuples.spoonripple_row_check.Statement.{statement}
+use Rattle.exports.proofs.tuples.spoonripple_row_check.Tie as tie
+
+check-requires : tie.Need-check-requires
+check-requires c κs = search needs
+
+enum-known-z : tie.Need-enum-known-z
+enum-known-z c = search needs
+
+cast-t13 : tie.Need-cast-t13
+cast-t13 c = search needs
+
+cast-t14 : tie.Need-cast-t14
+cast-t14 c = search needs
+
+cast-t15 : tie.Need-cast-t15
+cast-t15 c = search needs
+
+cast-t16 : tie.Need-cast-t16
+cast-t16 c = search needs
+
+slice-aggregate-hand : tie.Need-slice-aggregate-hand
+slice-aggregate-hand c = search needs
+
+hand-requires : tie.Need-hand-requires
+hand-requires c κs = search needs
+
+enum-known-why : tie.Need-enum-known-why
+enum-known-why c = search needs
+
+number-requires : tie.Need-number-requires
+number-requires c κs = search needs
+
+same-length : tie.Need-same-length
+same-length c = search needs
+
+returns : tie.Need-returns
+returns c =
+    let found = c .before .before .before .before .before .before .before .before .before .before in
+    called-given sizeNumbers (sym (ap outcome (found .z .given .1)) ∙ found .before .before .check .ensures) (c .before .before .hand .ensures)
+
+returns-2 : tie.Need-returns-2
+returns-2 c =
+    let found = c .before .before in
+    called-refused sizeNumbers (sym (ap outcome (found .why .given .1)) ∙ found .before .before .check .ensures) (c .number .ensures) refl
+
+pub spoonripple-row-check-spec : {M : Type 1} → statement M
+spoonripple-row-check-spec =
+    tie.close
+    (tie.spec
+    check-requires
+    enum-known-z
+    cast-t13
+    cast-t14
+    cast-t15
+    cast-t16
+    slice-aggregate-hand
+    hand-requires
+    enum-known-why
+    number-requires
+    same-length
+    returns
+    returns-2)

@@ -1,0 +1,84 @@
+-- `exports::tuples::spoonripple_tuple` meets its contract: it hands over what `tuple::intermediate_tuple` gives, or its refusal.
+-- Assumes nothing.
+use mathlib.Core.Path.{refl, sym, ap, _∙_}
+use borrow.Author.Needs.{needs}
+use Rattle.exports.proofs.Calls.{called-given, called-refused}
+use Rattle.exports.specs.Numbers.{tupleNumbers}
+use Rattle.headers.specs.Tuples.{outcome}
+use Rattle.exports.proofs.tuples.spoonripple_tuple.Statement.{statement}
+use Rattle.exports.proofs.tuples.spoonripple_tuple.Tie as tie
+
+row-number-requires : tie.Need-row-number-requires
+row-number-requires c κs = search needs
+
+intermediate-tuple-requires : tie.Need-intermediate-tuple-requires
+intermediate-tuple-requires c κs = search needs
+
+enum-known-t : tie.Need-enum-known-t
+enum-known-t c = search needs
+
+cast-t16 : tie.Need-cast-t16
+cast-t16 c = search needs
+
+cast-t17 : tie.Need-cast-t17
+cast-t17 c = search needs
+
+cast-t18 : tie.Need-cast-t18
+cast-t18 c = search needs
+
+cast-t19 : tie.Need-cast-t19
+cast-t19 c = search needs
+
+cast-t20 : tie.Need-cast-t20
+cast-t20 c = search needs
+
+cast-t21 : tie.Need-cast-t21
+cast-t21 c = search needs
+
+slice-aggregate-hand : tie.Need-slice-aggregate-hand
+slice-aggregate-hand c = search needs
+
+hand-requires : tie.Need-hand-requires
+hand-requires c κs = search needs
+
+enum-known-why : tie.Need-enum-known-why
+enum-known-why c = search needs
+
+number-requires : tie.Need-number-requires
+number-requires c κs = search needs
+
+same-length : tie.Need-same-length
+same-length c = search needs
+
+returns : tie.Need-returns
+returns c =
+    let found = c .before .before .before .before .before .before .before .before .before .before .before .before in
+    rw (← found .before .before .before .row-number .ensures)
+    (called-given tupleNumbers (sym (ap outcome (found .t .given .1)) ∙ found .before .before .intermediate-tuple .ensures) (c .before .before .hand .ensures))
+
+returns-2 : tie.Need-returns-2
+returns-2 c =
+    let found = c .before .before in
+    rw (← found .before .before .before .row-number .ensures)
+    (called-refused tupleNumbers (sym (ap outcome (found .why .given .1)) ∙ found .before .before .intermediate-tuple .ensures) (c .number .ensures) refl)
+
+pub spoonripple-tuple-spec : {M : Type 1} → statement M
+spoonripple-tuple-spec =
+    tie.close
+    (tie.spec
+    row-number-requires
+    intermediate-tuple-requires
+    enum-known-t
+    cast-t16
+    cast-t17
+    cast-t18
+    cast-t19
+    cast-t20
+    cast-t21
+    slice-aggregate-hand
+    hand-requires
+    enum-known-why
+    number-requires
+    same-length
+    returns
+    returns-2)

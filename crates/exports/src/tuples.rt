@@ -1,0 +1,123 @@
+// Rand, degrees, parameter rows, the shift and tuples (RFC 6330, sections 5.3.5, 5.5 and 5.6). A row is its five numbers K', J, S, H, W.
+ghost use mathlib.Core.Path.{_≡_};
+ghost use Rattle.headers.specs.Degree.{asked as degreeAsked};
+ghost use Rattle.headers.specs.Rand.{asked as randAsked};
+ghost use Rattle.headers.specs.Row.{checked};
+ghost use Rattle.headers.specs.Shift.{asked as shiftAsked};
+ghost use Rattle.headers.specs.Tuples.{asked as tupleAsked};
+ghost use Rattle.exports.specs.Call.{Called, listed, one, thenRoomed};
+ghost use Rattle.exports.specs.Numbers.{row, sizeNumbers, tupleNumbers};
+use crate::values::hand;
+use field::refusal::number;
+use headers::deg;
+use headers::ids;
+use headers::ids::Esi;
+use headers::ids::Shifted;
+use headers::number::Number;
+use headers::rng;
+use headers::row;
+use headers::row::Checked;
+use headers::row::Row;
+use headers::tuple;
+use headers::tuple::Generated;
+
+#[no_mangle]
+pub extern "C" fn spoonripple_rand(tables: &[u32], y: u32, i: u8, m: u32, out: &mut [u64]) -> u32
+    ensures { λ r. ⌜ Called (thenRoomed (now (out .entry)) (listed one (randAsked (now (tables .entry)) y i m))) (now (out .entry)) (now (out .exit)) r ⌝ }
+{
+    match rng::rand(tables, y, i, m) {
+        Number::Value(x) => {
+            let values = [x as u64];
+            hand(&values, out)
+        }
+        Number::Refused(why) => number(why),
+    }
+}
+
+#[no_mangle]
+pub extern "C" fn spoonripple_deg(v: u32, w: u32, out: &mut [u64]) -> u32
+    ensures { λ r. ⌜ Called (thenRoomed (now (out .entry)) (listed one (degreeAsked v w))) (now (out .entry)) (now (out .exit)) r ⌝ }
+{
+    match deg::deg(v, w) {
+        Number::Value(x) => {
+            let values = [x as u64];
+            hand(&values, out)
+        }
+        Number::Refused(why) => number(why),
+    }
+}
+
+// Values: L, P, B, P1.
+#[no_mangle]
+pub extern "C" fn spoonripple_row_check(
+    k: u32,
+    j: u32,
+    s: u32,
+    h: u32,
+    w: u32,
+    out: &mut [u64],
+) -> u32
+    ensures { λ r. ⌜ Called (thenRoomed (now (out .entry)) (listed sizeNumbers (checked (row k j s h w)))) (now (out .entry)) (now (out .exit)) r ⌝ }
+{
+    match row::check(Row { k, j, s, h, w }) {
+        Checked::Value(z) => {
+            let values = [z.l as u64, z.p as u64, z.b as u64, z.p1 as u64];
+            hand(&values, out)
+        }
+        Checked::Refused(why) => number(why),
+    }
+}
+
+// The ISI of an ESI, in a block of `count` source symbols.
+#[no_mangle]
+pub extern "C" fn spoonripple_isi(
+    k: u32,
+    j: u32,
+    s: u32,
+    h: u32,
+    w: u32,
+    count: u32,
+    esi: u32,
+    out: &mut [u64],
+) -> u32
+    ensures { λ r. ⌜ Called (thenRoomed (now (out .entry)) (listed one (shiftAsked (row k j s h w) count esi))) (now (out .entry)) (now (out .exit)) r ⌝ }
+{
+    match ids::isi_of(Row { k, j, s, h, w }, count, Esi(esi)) {
+        Shifted::Value(x) => {
+            let values = [ids::number(x) as u64];
+            hand(&values, out)
+        }
+        Shifted::Refused(why) => number(why),
+    }
+}
+
+// Values: d, a, b, d1, a1, b1. The ISI is a row's number of any 32 bits, not what was sent: that goes through spoonripple_isi first.
+#[no_mangle]
+pub extern "C" fn spoonripple_tuple(
+    k: u32,
+    j: u32,
+    s: u32,
+    h: u32,
+    w: u32,
+    tables: &[u32],
+    isi: u32,
+    out: &mut [u64],
+) -> u32
+    ensures { λ r. ⌜ Called (thenRoomed (now (out .entry)) (listed tupleNumbers (tupleAsked (row k j s h w) (now (tables .entry)) isi))) (now (out .entry)) (now (out .exit)) r ⌝ }
+{
+    let x = ids::beneath::row_number(isi);
+    match tuple::intermediate_tuple(Row { k, j, s, h, w }, tables, x) {
+        Generated::Value(t) => {
+            let values = [
+                t.d as u64,
+                t.a as u64,
+                t.b as u64,
+                t.d1 as u64,
+                t.a1 as u64,
+                t.b1 as u64,
+            ];
+            hand(&values, out)
+        }
+        Generated::Refused(why) => number(why),
+    }
+}

@@ -1,0 +1,19 @@
+// How values reach the caller.
+ghost use lib.ListN.{length};
+ghost use Rattle.field.specs.Answer.{given};
+ghost use Rattle.exports.specs.Call.{Called, roomed};
+
+// The values at the front of the caller's slice, or 8 where it has no room for them.
+pub fn hand(values: &[u64], out: &mut [u64]) -> u32
+    ensures { λ r. ⌜ Called (roomed (now (out .entry)) (length (now (values .entry))) (given (now (values .entry)))) (now (out .entry)) (now (out .exit)) r ⌝ }
+{
+    if out.len() < values.len() {
+        return 8;
+    }
+    let mut i = 0;
+    while i < values.len() {
+        out[i] = values[i];
+        i += 1;
+    }
+    0
+}
