@@ -3,6 +3,7 @@ pub mod Tests
 pub mod Primes
 pub mod Rising
 pub mod Accepted
+pub mod Shifts
 pub mod Tuples
 pub mod Settled
 mod Examples
