@@ -1,8 +1,8 @@
 -- `headers::beneath::rng::rand` meets its contract.
 -- Assumes nothing.
 use native.Mathlib.Nat.{mod-lt}
-use Rattle.headers.specs.Rand.{random}
 use borrow.Author.Needs.{needs}
+use Rattle.headers.specs.Rand.{random}
 use Rattle.headers.proofs.beneath.rng.rand.Statement.{statement}
 use Rattle.headers.proofs.beneath.rng.rand.Tie as tie
 

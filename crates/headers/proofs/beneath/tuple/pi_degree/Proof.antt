@@ -4,8 +4,8 @@ use mathlib.Core.Path.{ap}
 use Prim.Native.Nat.{ℕ, _+_}
 use native.Mathlib.Omega.{arith}
 use borrow.Author.Tests.{lt-ltb, le-ltb}
-use Rattle.headers.specs.Tuples.{piDegree}
 use borrow.Author.Needs.{needs}
+use Rattle.headers.specs.Tuples.{piDegree}
 use Rattle.headers.proofs.beneath.tuple.pi_degree.Statement.{statement}
 use Rattle.headers.proofs.beneath.tuple.pi_degree.Tie as tie
 
