@@ -8,6 +8,7 @@ pub mod Parting
 pub mod Primes
 pub mod Rising
 pub mod Accepted
+pub mod Shifts
 pub mod Tuples
 pub mod Answers
 pub mod Settled

@@ -9,6 +9,7 @@ use lib.Dec.{T, leb, ltb, eqb}
 use Rattle.field.specs.Choice.{both}
 use Rattle.headers.specs.Told.{Told}
 
+-- b is true where A holds, and false where it does not
 pub record Tells (b : Bool) (A : Type 0) : Type 0 where
   pub passes : b ≡ true → A
   pub breaks : b ≡ false → A → ⊥
@@ -20,17 +21,14 @@ pub told : (b : Bool) {A : Type 0} → Tells b A → Told b A
 told true t = t .passes refl
 told false t = t .breaks refl
 
-pub tells : (b : Bool) {A : Type 0} → Told b A → Tells b A
-tells true h = record { passes = λ e. h; breaks = λ e a. true-false e }
-tells false h = record { passes = λ e. true-false (sym e); breaks = λ e. h }
+-- what a caller knows past `if !f(..) { return .. }`, and in it
+pub granted : {A : Type 0} (b : Bool) → not b ≡ false → Told b A → A
+granted true e h = h
+granted false e h = true-false e
 
-pub told-true : {A : Type 0} (b : Bool) → b ≡ true → Told b A → A
-told-true true e h = h
-told-true false e h = true-false (sym e)
-
-pub told-false : {A : Type 0} (b : Bool) → b ≡ false → Told b A → A → ⊥
-told-false true e h a = true-false e
-told-false false e h a = h a
+pub denied : {A : Type 0} (b : Bool) → not b ≡ true → Told b A → A → ⊥
+denied true e h a = true-false (sym e)
+denied false e h a = h a
 
 pub is-true : {b : Bool} {A : Type 0} → Tells b A → A → b ≡ true
 is-true {b = true} t a = refl
@@ -39,11 +37,6 @@ is-true {b = false} t a = absurd (t .breaks refl a)
 pub is-false : {b : Bool} {A : Type 0} → Tells b A → (A → ⊥) → b ≡ false
 is-false {b = true} t n = absurd (n (t .passes refl))
 is-false {b = false} t n = refl
-
--- two tests of one fact agree
-pub agree : {b c : Bool} {A : Type 0} → Tells b A → Tells c A → b ≡ c
-agree {b = true} t u = sym (is-true u (t .passes refl))
-agree {b = false} t u = sym (is-false u (t .breaks refl))
 
 pub tells-both : {b c : Bool} {A B : Type 0} → Tells b A → Tells c B → Tells (both b c) (A × B)
 tells-both {b = true} t u = record { passes = λ e. (t .passes refl, u .passes e); breaks = λ e h. u .breaks e (h .1) }

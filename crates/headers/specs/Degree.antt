@@ -31,5 +31,5 @@ unfoldable pub degree : ℕ → ℕ → ℕ
 degree v w = min (climb v thresholds) (w - 2)
 
 -- what a call of deg answers
-abbrev pub asked : ℕ → ℕ → Outcome ℕ
-asked v w = unless (leb 1048576 v) 2 (unless (ltb w 2) 2 (given (degree v w)))
+abbrev pub answer : ℕ → ℕ → Outcome ℕ
+answer v w = unless (leb 1048576 v) 2 (unless (ltb w 2) 2 (given (degree v w)))

@@ -56,7 +56,7 @@ pub record Obeys (r : Row) : Type 0 where
   pub b-high : bands r < r .s
   pub l-high : lOf r ≤ 65535
 
--- each of two tests
+-- low <= n <= high, as a test
 abbrev pub between : ℕ → ℕ → ℕ → Bool
 between low n high = both (leb low n) (leb n high)
 

@@ -16,8 +16,8 @@ abbrev pub shifted : ℕ → ℕ → ℕ → ℕ
 shifted esi k kp = pick (ltb esi k) esi (esi + (kp - k))
 
 -- what the shift answers
-abbrev pub asked : Row → ℕ → ℕ → Outcome ℕ
-asked r k esi =
+abbrev pub answer : Row → ℕ → ℕ → Outcome ℕ
+answer r k esi =
     unless (not (obeys r)) 4 (unless (leb 16777216 esi) 9 (unless (not (between 1 k (r .k))) 9 (given (shifted esi k (r .k)))))
 
 abbrev pub outcome : Shifted → Outcome ℕ

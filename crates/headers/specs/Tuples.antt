@@ -62,8 +62,8 @@ pub record Ready (v : List ℕ) (j w p1 : ℕ) : Type 0 where
   pub p1-low : 2 ≤ p1
 
 -- what the generator answers
-abbrev pub asked : Row → List ℕ → ℕ → Outcome Tuple
-asked r v x = unless (not (obeys r)) 4 (unless (not (eqb (length v) 1024)) 5 (given (tupleOf v (r .j) (r .w) (p1Of r) x)))
+abbrev pub answer : Row → List ℕ → ℕ → Outcome Tuple
+answer r v x = unless (not (obeys r)) 4 (unless (not (eqb (length v) 1024)) 5 (given (tupleOf v (r .j) (r .w) (p1Of r) x)))
 
 abbrev pub outcome : Generated → Outcome Tuple
 outcome (Value t) = given t

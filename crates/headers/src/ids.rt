@@ -1,6 +1,6 @@
 // An ESI counts what was sent; an ISI counts matrix rows. Only the shift turns the first into the second.
 ghost use mathlib.Core.Path.{_≡_};
-ghost use Rattle.headers.specs.Shift.{asked, outcome};
+ghost use Rattle.headers.specs.Shift.{answer, outcome};
 use crate::beneath::row;
 use crate::row::Row;
 use field::refusal::Refusal;
@@ -18,7 +18,7 @@ pub enum Shifted {
 
 // The ISI of what was sent of a block of k source symbols.
 pub fn isi_of(r: Row, k: u32, e: Esi) -> Shifted
-    ensures { λ i. ⌜ outcome i ≡ asked r k (e .0) ⌝ }
+    ensures { λ i. ⌜ outcome i ≡ answer r k (e .0) ⌝ }
 {
     if !row::obeys(r) {
         return Shifted::Refused(Refusal::BadRow);

@@ -1,12 +1,12 @@
 -- `headers::ids::isi_of` meets its contract.
 -- Assumes nothing.
 use mathlib.Core.Path.{ap}
-use borrow.Author.Tests.{not-true, not-false, le-leb, lt-leb}
+use borrow.Author.Tests.{le-leb, lt-leb}
+use borrow.Author.Needs.{needs}
 use Rattle.field.specs.Answer.{given}
 use Rattle.headers.specs.Row.{Obeys}
-use Rattle.headers.proofs.Tests.{told-true, told-false}
+use Rattle.headers.proofs.Tests.{granted, denied}
 use Rattle.headers.proofs.Accepted.{obeyed, broken}
-use borrow.Author.Needs.{needs}
 use Rattle.headers.proofs.ids.isi_of.Statement.{statement}
 use Rattle.headers.proofs.ids.isi_of.Tie as tie
 
@@ -16,11 +16,11 @@ obeys-requires c κs = search needs
 returns : tie.Need-returns
 returns c =
     let b = c .before .obeys .result in
-    simp (broken (told-false b (not-true b (c .if1 .taken)) (c .before .obeys .ensures)))
+    simp (broken (denied b (c .if1 .taken) (c .before .obeys .ensures)))
 
 -- past the first test the rules hold
 fine : (c : tie.Else1) → Obeys (c .before .before .args .r)
-fine c = told-true (c .before .obeys .result) (not-false (c .before .obeys .result) (c .if1 .left)) (c .before .obeys .ensures)
+fine c = granted (c .before .obeys .result) (c .if1 .left) (c .before .obeys .ensures)
 
 returns-2 : tie.Need-returns-2
 returns-2 c = simp (obeyed (fine (c .before .before)), le-leb _ _ (c .if2 .taken))

@@ -2,10 +2,9 @@
 -- Assumes nothing.
 use mathlib.Core.Path.{ap}
 use borrow.Author.Needs.{needs}
-use borrow.Author.Tests.{not-true, not-false}
 use Rattle.field.specs.Answer.{given}
 use Rattle.headers.specs.Row.{Obeys}
-use Rattle.headers.proofs.Tests.{told-true, told-false}
+use Rattle.headers.proofs.Tests.{granted, denied}
 use Rattle.headers.proofs.Accepted.{obeyed, broken}
 use Rattle.headers.proofs.row.check.Statement.{statement}
 use Rattle.headers.proofs.row.check.Tie as tie
@@ -16,11 +15,11 @@ obeys-requires c κs = search needs
 returns : tie.Need-returns
 returns c =
     let b = c .before .obeys .result in
-    simp (broken (told-false b (not-true b (c .if1 .taken)) (c .before .obeys .ensures)))
+    simp (broken (denied b (c .if1 .taken) (c .before .obeys .ensures)))
 
 -- past the test the rules hold
 fine : (c : tie.Else1) → Obeys (c .before .before .args .r)
-fine c = told-true (c .before .obeys .result) (not-false (c .before .obeys .result) (c .if1 .left)) (c .before .obeys .ensures)
+fine c = granted (c .before .obeys .result) (c .if1 .left) (c .before .obeys .ensures)
 
 sizes-requires : tie.Need-sizes-requires
 sizes-requires c κs = fine c

@@ -2,12 +2,12 @@
 -- Assumes nothing.
 use mathlib.Core.Path.{_≡_, ap, sym, subst, _∙_}
 use borrow.Author.Tests.{eq-eqb, ne-eqb}
+use borrow.Author.Needs.{needs}
 use Rattle.field.specs.Answer.{given}
 use Rattle.headers.specs.Row.{Obeys, outcome, sizesOf}
 use Rattle.headers.specs.Tuples.{Ready, tupleOf}
 use Rattle.headers.specs.declared.row.Sizes.{Sizes}
 use Rattle.headers.proofs.Accepted.{obeyed, broken, accepted, rejected, ready}
-use borrow.Author.Needs.{needs}
 use Rattle.headers.proofs.tuple.intermediate_tuple.Statement.{statement}
 use Rattle.headers.proofs.tuple.intermediate_tuple.Tie as tie
 

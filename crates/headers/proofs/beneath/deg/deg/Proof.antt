@@ -30,18 +30,18 @@ add-d c = search needs
 
 -- a turn is taken below the last threshold only
 turn : (c : tie.In-loop Inv-loop μ-loop) → c .before .loop .d < 30
-turn c = not-last (search needs) (c .loop-test .taken) (c .before .before .pre .0)
+turn c = not-last (search needs) (omega arith) (c .before .before .pre .0)
 
 -- what the scan found
 held : (c : tie.After-loop Inv-loop μ-loop) → Holds (c .before .before .args .v) (c .before .loop .d)
 held c =
-    record { low = c .before .loop .inv .0; high = c .before .loop .inv .1; from = c .before .loop .inv .2; to = c .loop-test .left }
+    record { low = c .before .loop .inv .0; high = c .before .loop .inv .1; from = c .before .loop .inv .2; to = omega arith }
 
 loop-less : tie.Need-loop-less Inv-loop μ-loop
 loop-less c = omega (arith, turn c)
 
 loop-again : tie.Need-loop-again Inv-loop μ-loop
-loop-again c = (omega arith, omega (arith, turn c), rw (add-sub-cancel (c .before .loop .d) 1) (c .loop-test .taken))
+loop-again c = (omega arith, omega (arith, turn c), rw (add-sub-cancel (c .before .loop .d) 1) (omega arith))
 
 cast-n : tie.Need-cast-n Inv-loop μ-loop
 cast-n c = search needs

@@ -1,9 +1,9 @@
 -- `headers::beneath::prime::first_prime` meets its contract. The inner loop is left where a divisor is found, so the number
 -- is no prime and not 65,537: the outer loop ends there. Assumes nothing.
-use borrow.Author.Needs.{needs}
 use Prim.Native.Nat.{ℕ, _≤_, _<_, _-_}
 use native.Mathlib.Omega.{arith}
 use native.Mathlib.Nat.{mul-le-mul}
+use borrow.Author.Needs.{needs}
 use borrow.Author.Count.{below-more}
 use Rattle.headers.specs.Prime.{Prime}
 use Rattle.headers.proofs.Primes.{Clear, trial, composite, root, below-last, first-from, first-one}

@@ -1,6 +1,9 @@
 -- `headers::beneath::rng::entry` meets its contract.
 -- Assumes nothing.
+use mathlib.Core.Path.{ap}
+use Prim.Native.Nat.{ℕ, _+_, _*_}
 use borrow.Author.Needs.{needs}
+use lib.ListN.{getD}
 use Rattle.headers.proofs.beneath.rng.entry.Statement.{statement}
 use Rattle.headers.proofs.beneath.rng.entry.Tie as tie
 
@@ -23,7 +26,9 @@ shared-slice-read-result : tie.Need-shared-slice-read-result
 shared-slice-read-result c = search needs
 
 returns : tie.Need-returns
-returns c = cc
+returns c =
+    let start = c .before .before .before .args in
+    ap (λ (n : ℕ). getD (start .tables .now) (start .part * 256 + n) 0) (c .before .wrapping-add-u8 .ensures)
 
 pub entry-spec : {M : Type 1} → statement M
 entry-spec =

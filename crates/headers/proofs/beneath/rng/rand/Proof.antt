@@ -1,8 +1,8 @@
 -- `headers::beneath::rng::rand` meets its contract.
 -- Assumes nothing.
 use native.Mathlib.Nat.{mod-lt}
-use Rattle.headers.specs.Rand.{random}
 use borrow.Author.Needs.{needs}
+use Rattle.headers.specs.Rand.{random}
 use Rattle.headers.proofs.beneath.rng.rand.Statement.{statement}
 use Rattle.headers.proofs.beneath.rng.rand.Tie as tie
 
@@ -35,7 +35,10 @@ rem-result c = search needs
 
 returns : tie.Need-returns
 unfolding random
-returns c = (cc, mod-lt _ (c .before .before .before .before .before .pre .1))
+returns c = (
+  rw (c .before .before .before .entry .ensures, c .before .before .entry2 .ensures, c .before .entry3 .ensures, c .entry4 .ensures),
+  mod-lt _ (c .before .before .before .before .before .pre .1),
+)
 
 pub rand-spec : {M : Type 1} → statement M
 rand-spec =

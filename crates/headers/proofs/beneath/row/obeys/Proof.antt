@@ -1,10 +1,9 @@
 -- `headers::beneath::row::obeys` meets its contract.
 -- Assumes nothing.
 use native.Mathlib.Omega.{arith}
-use borrow.Author.Tests.{not-true, not-false}
-use Rattle.headers.specs.Row.{Ranges}
-use Rattle.headers.proofs.Tests.{told-true, told-false}
 use borrow.Author.Needs.{needs}
+use Rattle.headers.specs.Row.{Ranges}
+use Rattle.headers.proofs.Tests.{granted, denied}
 use Rattle.headers.proofs.beneath.row.obeys.Statement.{statement}
 use Rattle.headers.proofs.beneath.row.obeys.Tie as tie
 
@@ -14,11 +13,11 @@ in-range-requires c κs = search needs
 returns : tie.Need-returns
 returns c =
     let b = c .before .in-range .result in
-    λ o. told-false b (not-true b (c .if1 .taken)) (c .before .in-range .ensures) (o .ranges)
+    λ o. denied b (c .if1 .taken) (c .before .in-range .ensures) (o .ranges)
 
 -- past the first test each number is in its range
 ranged : (c : tie.Else1) → let r = c .before .before .args .r in Ranges (r .k) (r .j) (r .s) (r .h) (r .w)
-ranged c = told-true (c .before .in-range .result) (not-false (c .before .in-range .result) (c .if1 .left)) (c .before .in-range .ensures)
+ranged c = granted (c .before .in-range .result) (c .if1 .left) (c .before .in-range .ensures)
 
 is-prime-requires : tie.Need-is-prime-requires
 is-prime-requires c κs = let k = ranged c in omega arith
@@ -26,7 +25,7 @@ is-prime-requires c κs = let k = ranged c in omega arith
 returns-2 : tie.Need-returns-2
 returns-2 c =
     let b = c .before .is-prime .result in
-    λ o. told-false b (not-true b (c .if2 .taken)) (c .before .is-prime .ensures) (o .w-prime)
+    λ o. denied b (c .if2 .taken) (c .before .is-prime .ensures) (o .w-prime)
 
 returns-3 : tie.Need-returns-3
 returns-3 c = search needs
@@ -67,7 +66,7 @@ returns-7 c =
     let b = tested .before .is-prime .result in
     record {
       ranges = ranged (tested .before .before);
-      w-prime = told-true b (not-false b (tested .if2 .left)) (tested .before .is-prime .ensures);
+      w-prime = granted b (tested .if2 .left) (tested .before .is-prime .ensures);
       b-low = omega arith;
       p-low = omega arith;
       b-high = omega arith;

@@ -1,8 +1,8 @@
 -- `headers::beneath::row::p1` meets its contract.
 -- Assumes nothing.
 use mathlib.Core.Path.{ap, _∙_}
-use Rattle.headers.specs.Prime.{firstPrime}
 use borrow.Author.Needs.{needs}
+use Rattle.headers.specs.Prime.{firstPrime}
 use Rattle.headers.proofs.beneath.row.p1.Statement.{statement}
 use Rattle.headers.proofs.beneath.row.p1.Tie as tie
 

@@ -2,9 +2,9 @@
 -- Assumes nothing.
 use mathlib.Core.Path.{ap, _∙_}
 use native.Mathlib.Omega.{arith}
+use borrow.Author.Needs.{needs}
 use Rattle.headers.specs.Tuples.{tupleOf}
 use Rattle.headers.proofs.Tuples.{drawn}
-use borrow.Author.Needs.{needs}
 use Rattle.headers.proofs.beneath.tuple.intermediate_tuple.Statement.{statement}
 use Rattle.headers.proofs.beneath.tuple.intermediate_tuple.Tie as tie
 

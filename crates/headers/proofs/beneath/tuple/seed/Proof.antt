@@ -1,9 +1,9 @@
 -- `headers::beneath::tuple::seed` meets its contract.
 -- Assumes nothing.
 use native.Mathlib.Omega.{arith}
+use borrow.Author.Needs.{needs}
 use Rattle.headers.specs.Tuples.{seed}
 use Rattle.headers.proofs.Tuples.{product}
-use borrow.Author.Needs.{needs}
 use Rattle.headers.proofs.beneath.tuple.seed.Statement.{statement}
 use Rattle.headers.proofs.beneath.tuple.seed.Tie as tie
 
