@@ -2,6 +2,7 @@
 pub mod Computed
 pub mod Xor
 pub mod Laws
+pub mod Sums
 pub mod Writing
 pub mod Answers
 mod Examples

@@ -8,10 +8,10 @@ use Rattle.linear.specs.Field.{Field}
 use Rattle.linear.specs.Index.{cut}
 use Rattle.linear.specs.Total.{total}
 use Rattle.linear.specs.Span.{InSpan}
-use Rattle.linear.specs.Independent.{RowsOf, OneMore}
+use Rattle.linear.specs.Independent.{MostIndependent, RowsOf, OneMore}
 use Rattle.linear.specs.System.{System, Symbols, Same, SameEquation, Included, Fits, Solved, Contradiction, Open, Shortfall}
 use Rattle.linear.proofs.Total.{total-ext}
-use Rattle.linear.proofs.Independent.{most-unique, most-grows, most-step}
+use Rattle.linear.proofs.Independent.{most-unique, rank, most-grows, most-same, most-step}
 use Rattle.linear.proofs.System.{same-sym, same-trans}
 
 module _ (K : Field) (L T : ℕ) where
@@ -63,6 +63,15 @@ module _ (K : Field) (L T : ℕ) where
   shortfall-never-grows {S} {R} h a b =
       let p : a .rank ≤ b .rank = most-grows K L (S .count) (R .count) (a .rank) (b .rank) (S .coef) (R .coef) (rows-of h) (a .most) (b .most) in
       omega (arith, a .less, b .less)
+
+  -- the same equations, in any order and number: the same shortfall
+  pub shortfall-same : {S R : System F} {s : ℕ} → Included L T S R → Included L T R S → Shortfall K L T S s → Shortfall K L T R s
+  shortfall-same {S} {R} {s} h g a = go (rank K L (R .count) (R .coef))
+    where
+      go : (r : ℕ) × MostIndependent K (R .count) (cut L (R .coef)) r → Shortfall K L T R s
+      go (r, m) =
+          let e : a .rank ≡ r = most-same K L (S .count) (R .count) (a .rank) r (S .coef) (R .coef) (rows-of h) (rows-of g) (a .most) m in
+          record { rank = r; most = m; less = omega (arith, a .less) }
 
   -- One more equation, whose row is v: the shortfall falls by one where v is in no combination of the rows, and else stays. Its symbol has no say.
   pub one-more : {S R : System F} (v : ℕ → F) {s t : ℕ} → OneMore K L (S .count) (R .count) (S .coef) (R .coef) v → Shortfall K L T S s → Shortfall K L T R t

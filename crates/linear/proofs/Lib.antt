@@ -11,3 +11,7 @@ pub mod Reduced
 pub mod Answers
 pub mod Partly
 pub mod Existence
+pub mod Octets
+pub mod Bytes
+pub mod Octetwise
+pub mod Growth

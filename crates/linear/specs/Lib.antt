@@ -7,3 +7,5 @@ pub mod Independent
 pub mod System
 pub mod RowOps
 pub mod Reduced
+pub mod Octets
+pub mod Bytes
