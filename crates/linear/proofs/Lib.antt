@@ -15,3 +15,6 @@ pub mod Octets
 pub mod Bytes
 pub mod Octetwise
 pub mod Growth
+pub mod Rows
+pub mod Keeping
+pub mod Elimination

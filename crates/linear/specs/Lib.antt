@@ -9,3 +9,5 @@ pub mod RowOps
 pub mod Reduced
 pub mod Octets
 pub mod Bytes
+pub mod Rows
+pub mod Elimination
