@@ -15,7 +15,7 @@ use Rattle.linear.specs.Span.{InSpan}
 use Rattle.linear.specs.Independent.{OneMore}
 use Rattle.linear.specs.System.{System, SameEquation, Included}
 use Rattle.linear.specs.Octets.{octets, oct}
-use Rattle.linear.specs.Bytes.{Block, OctetSymbols, inOctets, cell, FitsBytes, SolvedBytes, ContradictionBytes, OpenBytes, ShortfallBytes, AnswerBytes, contradicted-bytes, settled-bytes, left-open-bytes, OneMoreBytes}
+use Rattle.linear.specs.Bytes.{OctetSymbols, inOctets, cell, FitsBytes, SolvedBytes, ContradictionBytes, OpenBytes, ShortfallBytes, AnswerBytes, contradicted-bytes, settled-bytes, left-open-bytes, OneMoreBytes}
 use Rattle.linear.proofs.Answers.{shortfall-never-grows, shortfall-same, one-more, row-decides}
 use Rattle.linear.proofs.Octetwise.{answer-bytes}
 
@@ -23,6 +23,15 @@ use Rattle.linear.proofs.Octetwise.{answer-bytes}
 
 pub included-refl : (L T : ℕ) (S : System ℕ) → Included L T S S
 included-refl L T S i h = (i, h, record { coefs = λ c l. refl; bytes = λ t l. refl })
+
+pub included-trans : {L T : ℕ} {S R Q : System ℕ} → Included L T S R → Included L T R Q → Included L T S Q
+included-trans {L} {T} {S} {R} {Q} f g i h = go (f i h)
+  where
+    further : (k : ℕ) → SameEquation L T S i R k → (n : ℕ) × (n < Q .count) × SameEquation L T R k Q n → (n : ℕ) × (n < Q .count) × SameEquation L T S i Q n
+    further k e (n, b, u) = (n, b, record { coefs = λ c q. e .coefs c q ∙ u .coefs c q; bytes = λ t q. e .bytes t q ∙ u .bytes t q })
+
+    go : (k : ℕ) × (k < R .count) × SameEquation L T S i R k → (n : ℕ) × (n < Q .count) × SameEquation L T S i Q n
+    go (k, l, e) = further k e (g k l)
 
 -- Constraints first, and then arrivals: the Z constraints are the same, and each arrival is among the second's.
 pub included-arrivals : (L T Z n m : ℕ) (S R : System ℕ) → S .count ≡ Z + n → R .count ≡ Z + m → ((i : ℕ) → i < Z → SameEquation L T S i R i)
@@ -35,6 +44,16 @@ included-arrivals L T Z n m S R en em fixed among i h = go (decLt i Z)
     go : Dec (i < Z) → (k : ℕ) × (k < R .count) × SameEquation L T S i R k
     go (yes l) = (i, omega arith, fixed i l)
     go (no l) = shift (i - Z) (omega arith) (among (i - Z) (omega arith))
+
+-- and a set fits that meets the constraints and yields every symbol that arrived
+pub fits-arrivals : {L T Z n : ℕ} {S : System ℕ} {C : List ℕ} → S .count ≡ Z + n
+    → ((i : ℕ) → i < Z → (t : ℕ) → t < T → sum L (λ c. times (S .coef i c) (cell T C c t)) ≡ S .byte i t)
+    → ((j : ℕ) → j < n → (t : ℕ) → t < T → sum L (λ c. times (S .coef (Z + j) c) (cell T C c t)) ≡ S .byte (Z + j) t) → FitsBytes L T S C
+fits-arrivals {L} {T} {Z} {n} {S} {C} e constraints arrivals = record { meets = λ i l t q. go i l t q (decLt i Z) }
+  where
+    go : (i : ℕ) → i < S .count → (t : ℕ) → t < T → Dec (i < Z) → sum L (λ c. times (S .coef i c) (cell T C c t)) ≡ S .byte i t
+    go i l t q (yes h) = constraints i h t q
+    go i l t q (no h) = let z : Z + (i - Z) ≡ i = omega arith in rw z at (arrivals (i - Z) (omega arith) t q)
 
 pub included-octets : {L T : ℕ} {S R : System ℕ} → Included L T S R → Included L T (inOctets S) (inOctets R)
 included-octets inc i h =

@@ -9,7 +9,7 @@ use native.Mathlib.Omega.{arith}
 use native.Mathlib.Decide.{decLt}
 use Rattle.field.specs.Octet.{times}
 use Rattle.linear.specs.Index.{Col}
-use Rattle.linear.specs.Span.{InSpan, Within, SameSpan}
+use Rattle.linear.specs.Span.{InSpan, Within}
 use Rattle.linear.specs.System.{System, Included, equation}
 use Rattle.linear.specs.Octets.{octets, Octet, oct}
 use Rattle.linear.specs.Bytes.{cell, stored, inOctets}

@@ -18,3 +18,4 @@ pub mod Growth
 pub mod Rows
 pub mod Keeping
 pub mod Elimination
+pub mod Finish

@@ -21,20 +21,23 @@ use Rattle.linear.specs.Bytes.{Bytes, cell, symbols}
 use Rattle.linear.specs.Rows.{RowAdded, RowTimes, RowCopied, RowCleared, OnlyBelow}
 use Rattle.linear.proofs.Field.{add-zero, zero-mul}
 use Rattle.linear.proofs.Index.{update-same, update-other}
-use Rattle.linear.proofs.Octets.{oct-zero, oct-one, oct-plus, oct-times}
+use Rattle.linear.proofs.Octets.{oct-one, oct-plus, oct-times}
 open Field octets using (_⊕_, _⊗_, 𝟘)
 
 infixl 60 _⊕_
 infixl 70 _⊗_
 -- ---- what stands where afterwards
 
--- every other row is as it was
-pub row-other : {f : ℕ → ℕ} {xs ys : List ℕ} {w : ℕ} (i : ℕ) → Written f xs ys (i * w) w → (k : ℕ) → k ≢ i → (c : ℕ) → c < w → cell w ys k c ≡ cell w xs k c
-row-other {f} {xs} {ys} {w} i s k n c h = go (decLt k i)
+-- every other row is as it was, also while only n entries of row i are written
+pub row-other-part : {f : ℕ → ℕ} {xs ys : List ℕ} {n w : ℕ} (i : ℕ) → n ≤ w → Written f xs ys (i * w) n → (k : ℕ) → k ≢ i → (c : ℕ) → c < w → cell w ys k c ≡ cell w xs k c
+row-other-part {f} {xs} {ys} {n} {w} i b s k ne c h = go (decLt k i)
   where
     go : Dec (k < i) → cell w ys k c ≡ cell w xs k c
     go (yes l) = s .low (k * w + c) (omega (arith, mul-le-mul-right w l))
     go (no l) = let q : i < k = omega arith in s .high (k * w + c) (omega (arith, mul-le-mul-right w q))
+
+pub row-other : {f : ℕ → ℕ} {xs ys : List ℕ} {w : ℕ} (i : ℕ) → Written f xs ys (i * w) w → (k : ℕ) → k ≢ i → (c : ℕ) → c < w → cell w ys k c ≡ cell w xs k c
+row-other i s = row-other-part i (omega arith) s
 
 -- octets stay octets
 pub bytes-written : {f : ℕ → ℕ} {xs ys : List ℕ} {at n : ℕ} → Bytes xs → ((k : ℕ) → k < n → f k < 256) → Written f xs ys at n → Bytes ys
