@@ -228,6 +228,10 @@ pub inverse-times : (a : ℕ) → 0 < a → a < 256 → times (inverse a) a ≡ 
 inverse-times zero p h = absurd (omega arith)
 inverse-times (suc a) p h = inverted a (omega arith)
 
+pub inverse-lt : (a : ℕ) → inverse a < 256
+unfolding inverse squares
+inverse-lt a = times-lt _ _
+
 -- a factor that is not 0 goes out of an equation
 pub times-cancel : (a b c : ℕ) → 0 < a → a < 256 → b < 256 → c < 256 → times a b ≡ times a c → b ≡ c
 times-cancel a b c p ha hb hc e = sym (back b hb) ∙ ap (times (inverse a)) e ∙ back c hc

@@ -2,5 +2,6 @@
 pub mod Computed
 pub mod Xor
 pub mod Laws
+pub mod Sums
 pub mod Writing
 pub mod Answers

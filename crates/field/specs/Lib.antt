@@ -1,6 +1,7 @@
 -- What the contracts of `field` cite. A crate above names these as `Rattle.field.specs.Octet`.
 pub mod Choice
 pub mod Octet
+pub mod Sum
 pub mod Answer
 pub mod Runs
 pub mod Examples

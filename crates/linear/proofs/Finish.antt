@@ -1,0 +1,129 @@
+-- What the elimination says of the system that it began with: a contradiction as soon as a row of zeros has a symbol that is not 0, and at the
+-- end solved, with the set, or open, with the shortfall.
+-- Assumes nothing.
+use mathlib.Core.Path.{_≡_, sym, ap, _∙_}
+use mathlib.Core.Logic.{_≢_}
+use mathlib.Core.List.{List}
+use Prim.Native.Nat.{ℕ, _+_, _-_, _*_, _≤_, _<_}
+use native.Mathlib.Omega.{arith}
+use native.Mathlib.Decide.{ℕ-discrete, decLt}
+use lib.ListN.{length, take, getD, List·getD-eq-default}
+use lib.Seq.{getD-take, length-take-le, ext-getD}
+use Rattle.linear.specs.Field.{Field}
+use Rattle.linear.specs.Total.{delta}
+use Rattle.linear.specs.System.{System, Symbols, Fits}
+use Rattle.linear.specs.Reduced.{Reduced}
+use Rattle.linear.specs.Octets.{octets, Octet, oct}
+use Rattle.linear.specs.Bytes.{Bytes, cell, Block, stored, OctetSymbols, inOctets, symbols, SolvedBytes, ContradictionBytes, OpenBytes, ShortfallBytes}
+use Rattle.linear.specs.Rows.{RowCopied, OnlyBelow}
+use Rattle.linear.specs.Elimination.{Holds, Held, Gathered}
+use Rattle.linear.proofs.Field.{zero-mul}
+use Rattle.linear.proofs.Total.{total-vanish, delta-self, delta-other}
+use Rattle.linear.proofs.System.{fits-follows}
+use Rattle.linear.proofs.Reduced.{rank-le, shortfall, solved-by, two-fit}
+use Rattle.linear.proofs.Octets.{oct-zero, oct-one, oct-once}
+use Rattle.linear.proofs.Bytes.{cell-lt, contradiction-bytes, solved-bytes, open-bytes}
+use Rattle.linear.proofs.Octetwise.{solved-bytes-once}
+use Rattle.linear.proofs.Rows.{row-other, only-row, only-past}
+open Field octets using (_⊗_, 𝟘)
+
+infixl 70 _⊗_
+-- ---- (d): a row of zeros whose symbol is not 0, whatever rows are yet to be taken
+
+pub clash : {M L T : ℕ} {S : System ℕ} {a d : List ℕ} (m t : ℕ) → Holds M L T S a d → Bytes d → m < M → t < T → ((c : ℕ) → c < L → cell L a m c ≡ 0) → cell T d m t ≢ 0 → ContradictionBytes L T S
+clash {M} {L} {T} {S} {a} {d} m t h bd hm ht z nz =
+    contradiction-bytes L T S (record { none = λ C f. nz (zero-byte C (fits-follows octets L T (h .to) f)) })
+  where
+    zero-byte : (C : Symbols Octet) → Fits octets L T (inOctets (stored M L T a d)) C → cell T d m t ≡ 0
+    zero-byte C f = oct-once _ _ (bd _) (omega arith)
+        (sym (f .meets m hm t ht)
+        ∙ total-vanish octets L (λ c l. ap (λ (y : Octet). y ⊗ C c t) (ap oct (z c l) ∙ oct-zero) ∙ zero-mul octets (C c t))
+        ∙ sym oct-zero)
+
+-- the same, of the place x of the store
+pub clash-at : {M L T : ℕ} {S : System ℕ} {a d : List ℕ} (m x : ℕ) → Holds M L T S a d → Bytes d → m < M → m * T ≤ x → x < m * T + T → ((c : ℕ) → c < L → cell L a m c ≡ 0) → getD d x 0 ≢ 0
+    → ContradictionBytes L T S
+clash-at {T = T} {d = d} m x h bd hm lo hi z nz =
+    let e : m * T + (x - m * T) ≡ x = omega arith in
+    clash m (x - m * T) h bd hm (omega arith) z (λ q. nz (ap (λ (y : ℕ). getD d y 0) (sym e) ∙ q))
+
+-- ---- (f): all M rows are taken
+
+module _ {M L T r : ℕ} {pivot : ℕ → ℕ} {a d : List ℕ} (held : Held L T M r pivot a d) where
+  -- no two have one pivot
+  pub pivot-once : (i k : ℕ) → i < r → k < r → pivot i ≡ pivot k → i ≡ k
+  pivot-once i k hi hk e = go (ℕ-discrete i k)
+    where
+      go : Dec (i ≡ k) → i ≡ k
+      go (yes q) = q
+      go (no n) = absurd (let z : _≡_ {A = ℕ} 1 0 = sym (held .one i hi) ∙ ap (cell L a i) e ∙ held .off i k hi hk n in omega arith)
+
+  abbrev end : System Octet
+  end = inOctets (stored M L T a d)
+
+  reduced : Reduced octets L M (symbols L a) r
+  reduced = record {
+    enough = held .enough;
+    pivot = pivot;
+    pivot-below = held .column;
+    unit = λ i k h l. go i k h l (ℕ-discrete i k);
+    rest = λ i h l c b. ap oct (held .row-gone i h l c b) ∙ oct-zero;
+  }
+    where
+      go : (i k : ℕ) → i < r → k < r → Dec (i ≡ k) → oct (cell L a i (pivot k)) ≡ delta octets i k
+      go i k h l (yes e) = ap (λ (z : ℕ). oct (cell L a z (pivot k))) e ∙ ap oct (held .one k l) ∙ oct-one ∙ sym (ap (λ (z : ℕ). delta octets z k) e ∙ delta-self octets k)
+      go i k h l (no n) = ap oct (held .off i k h l n) ∙ oct-zero ∙ sym (delta-other octets i k n)
+
+  clean : (i : ℕ) → r ≤ i → i < M → (t : ℕ) → t < T → oct (cell T d i t) ≡ 𝟘
+  clean i h l t b = ap oct (held .symbol-gone i h l t b) ∙ oct-zero
+
+  pub rank-at-most : r ≤ L
+  rank-at-most = rank-le octets L T end r reduced
+
+  module _ {S : System ℕ} (holds : Holds M L T S a d) where
+    pub answer-shortfall : ShortfallBytes L T S (L - r)
+    answer-shortfall = record { lacks = shortfall octets L T (inOctets S) end r reduced (holds .to) (holds .back) }
+
+    pub answer-open : OctetSymbols T S → 0 < T → r < L → OpenBytes L T S
+    answer-open small pos h = open-bytes L T S small (two-fit octets L T (inOctets S) end r reduced (holds .to) (holds .back) clean h pos)
+
+    -- as many held as columns: the set has the symbol of held row k in the column of its pivot
+    pub answer-solved : (out : List ℕ) → OctetSymbols T S → Bytes out → L * T ≤ length out → r ≡ L → Gathered T r pivot d out → SolvedBytes L T S (take (L * T) out)
+    unfolding reduced
+    answer-solved out small bo long e g = solved-bytes L T S small (take (L * T) out) block
+        (solved-by octets L T (inOctets S) end r reduced (holds .to) (holds .back) clean e (symbols T (take (L * T) out))
+        (λ k h t q. ap oct (getD-take (L * T) out (pivot k * T + t) 0 (cell-lt T L (pivot k) t (held .column k h) q) ∙ g .at k h t q)))
+      where
+        go : (i : ℕ) → Dec (i < L * T) → getD (take (L * T) out) i 0 < 256
+        go i (yes h) = rw (getD-take (L * T) out i 0 h) (bo i)
+        go i (no h) = rw (List·getD-eq-default (take (L * T) out) 0 {n = i} (let q = length-take-le (L * T) out long in omega arith)) (omega arith)
+
+        block : Block L T (take (L * T) out)
+        block = record { size = length-take-le (L * T) out long; bytes = λ i. go i (decLt i (L * T)) }
+
+  -- ---- the symbols go to their columns, one after the other
+
+  pub gather-more : {n : ℕ} {out out₁ : List ℕ} → Gathered T n pivot d out → n < r → RowCopied T (pivot n) n d out out₁ → Gathered T (n + 1) pivot d out₁
+  gather-more {n} {out} {out₁} g h s = record { at = λ k l t q. go k l t q (ℕ-discrete k n) }
+    where
+      go : (k : ℕ) → k < n + 1 → (t : ℕ) → t < T → Dec (k ≡ n) → cell T out₁ (pivot k) t ≡ cell T d k t
+      go k l t q (yes e) = ap (λ (z : ℕ). cell T out₁ (pivot z) t) e ∙ s .part t q ∙ ap (λ (z : ℕ). cell T d z t) (sym e)
+      go k l t q (no m) = row-other (pivot n) s (pivot k) (λ e. m (pivot-once k n (omega arith) h e)) t q ∙ g .at k (omega arith) t q
+
+  -- and no place of the out store past the L symbols changes
+  pub gather-only : {n : ℕ} {out out₁ : List ℕ} → n < r → RowCopied T (pivot n) n d out out₁ → OnlyBelow (L * T) out out₁
+  gather-only {n} h s = only-row (pivot n) L (held .column n h) s
+
+pub gather-none : (T : ℕ) (pivot : ℕ → ℕ) (d out : List ℕ) → Gathered T 0 pivot d out
+gather-none T pivot d out = record { at = λ k h. absurd (omega arith) }
+
+-- solved settles the whole out store: the set in front, and what was there past it
+pub out-once : {L T : ℕ} {S : System ℕ} {out o₁ o₂ : List ℕ} → SolvedBytes L T S (take (L * T) o₁) → SolvedBytes L T S (take (L * T) o₂) → OnlyBelow (L * T) out o₁ → OnlyBelow (L * T) out o₂ → o₁ ≡ o₂
+out-once {L} {T} {S} {out} {o₁} {o₂} s u p q = ext-getD 0 o₁ o₂ (p .size ∙ sym (q .size)) (λ k _. go k (decLt k (L * T)))
+  where
+    same : take (L * T) o₁ ≡ take (L * T) o₂
+    same = solved-bytes-once s u
+
+    go : (k : ℕ) → Dec (k < L * T) → getD o₁ k 0 ≡ getD o₂ k 0
+    go k (yes h) = sym (getD-take (L * T) o₁ k 0 h) ∙ ap (λ (z : List ℕ). getD z k 0) same ∙ getD-take (L * T) o₂ k 0 h
+    go k (no h) = only-past p k (omega arith) ∙ sym (only-past q k (omega arith))

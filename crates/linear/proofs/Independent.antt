@@ -1,0 +1,215 @@
+-- The most independent rows of a matrix: that there is such a number, that there is only one, and how it grows with the rows.
+-- Assumes nothing.
+use mathlib.Core.Path.{_≡_, sym, ap, ap₂, subst, _∙_}
+use mathlib.Core.Logic.{_≢_, _⊎_, inl, inr}
+use Prim.Native.Nat.{ℕ, zero, suc, _≤_, _<_}
+use native.Mathlib.Omega.{arith}
+use native.Mathlib.Decide.{ℕ-discrete}
+use Rattle.linear.specs.Field.{Field}
+use Rattle.linear.specs.Index.{cons, Col, cut}
+use Rattle.linear.specs.Total.{total, delta}
+use Rattle.linear.specs.Span.{lin, InSpan, Within}
+use Rattle.linear.specs.Independent.{Independent, Dependent, Choice, MostIndependent, Basis, RowsOf, OneMore}
+use Rattle.linear.proofs.Field.{add-zero, zero-mul, add-mul, eq-of-add}
+use Rattle.linear.proofs.Total.{total-ext, total-add, total-mul, delta-self, delta-other, total-delta}
+use Rattle.linear.proofs.Span.{span-member, span-eq, span-trans, within-trans}
+use Rattle.linear.proofs.Kernel.{Kernel, kernel, steinitz}
+
+module _ (K : Field) where
+  open Field K using (carrier as F, _⊕_, _⊗_, 𝟘, 𝟙, inv, zero-add, add-self, mul-comm, mul-assoc, one-mul, inv-mul, one-ne-zero)
+
+  infixl 60 _⊕_
+  infixl 70 _⊗_
+  module _ {J : Type 0} where
+    -- independent rows are chosen once each
+    pub chosen-once : {M n : ℕ} {w : ℕ → J → F} (c : Choice K M n w) (i k : ℕ) → i < n → k < n → c .place i ≡ c .place k → i ≡ k
+    chosen-once {M} {n} {w} c i k hi hk e = go (ℕ-discrete i k)
+      where
+        a : ℕ → F
+        a x = delta K x i ⊕ delta K x k
+
+        gone : (j : J) → lin K n a (λ x. w (c .place x)) j ≡ 𝟘
+        gone j =
+            total-ext K n (λ x l. add-mul K (delta K x i) (delta K x k) _ ∙ ap₂ _⊕_ (mul-comm _ _) (mul-comm _ _))
+            ∙ total-add K n _ _
+            ∙ ap₂ _⊕_ (total-delta K n i (λ x. w (c .place x) j) hi) (total-delta K n k (λ x. w (c .place x) j) hk ∙ ap (λ (x : ℕ). w x j) (sym e))
+            ∙ add-self _
+
+        go : Dec (i ≡ k) → i ≡ k
+        go (yes p) = p
+        go (no h) = absurd (one-ne-zero (sym (ap₂ _⊕_ (delta-self K i) (delta-other K i k h) ∙ add-zero K 𝟙) ∙ c .free .only-zero a gone i hi))
+
+    pub most-unique : {M r s : ℕ} {w : ℕ → J → F} → MostIndependent K M w r → MostIndependent K M w s → r ≡ s
+    most-unique {M} {r} {s} {w} a b =
+        let p : r ≤ s = b .most r (a .some) in
+        let q : s ≤ r = a .most s (b .some) in
+        omega arith
+
+    pub most-of-basis : {M r : ℕ} {w : ℕ → J → F} → Basis K M r w → MostIndependent K M w r
+    most-of-basis {M} {r} {w} b = record {
+      some = b .choice;
+      most = λ n c. steinitz K n r (λ k. w (c .place k)) (λ k. w (b .choice .place k)) (c .free) (λ k l. b .spans (c .place k) (c .below k l));
+    }
+
+    -- a vector that makes independent ones dependent is in their span
+    head-in-span : (r : ℕ) (w : ℕ → J → F) → Independent K r (λ k. w (suc k)) → Dependent K (suc r) w → InSpan K r (λ k. w (suc k)) (w zero)
+    unfolding total
+    head-in-span r w ind d = record { coef = λ k. inv (d .coef zero) ⊗ d .coef (suc k); eq = row }
+      where
+        rest : J → F
+        rest j = total K r (λ k. d .coef (suc k) ⊗ w (suc k) j)
+
+        tail-zero : d .coef zero ≡ 𝟘 → (k : ℕ) → k < r → d .coef (suc k) ≡ 𝟘
+        tail-zero e = ind .only-zero (λ k. d .coef (suc k)) (λ j. sym (zero-add (rest j)) ∙ ap (λ (x : F). x ⊕ rest j) (sym (ap (λ (x : F). x ⊗ w zero j) e ∙ zero-mul K (w zero j))) ∙ d .vanishes j)
+
+        clash : d .coef zero ≡ 𝟘 → (k : ℕ) → k < suc r → d .coef k ≡ 𝟘
+        clash e zero h = e
+        clash e (suc k) h = tail-zero e k (omega arith)
+
+        nz : d .coef zero ≢ 𝟘
+        nz e = d .other (clash e (d .place) (d .below))
+
+        row : (j : J) → w zero j ≡ total K r (λ k. inv (d .coef zero) ⊗ d .coef (suc k) ⊗ w (suc k) j)
+        row j =
+            sym (ap (λ (x : F). x ⊗ w zero j) (inv-mul (d .coef zero) nz) ∙ one-mul (w zero j))
+            ∙ mul-assoc (inv (d .coef zero)) (d .coef zero) (w zero j)
+            ∙ ap (λ (x : F). inv (d .coef zero) ⊗ x) (eq-of-add K _ _ (d .vanishes j))
+            ∙ sym (total-mul K r (inv (d .coef zero)) (λ k. d .coef (suc k) ⊗ w (suc k) j))
+            ∙ total-ext K r (λ k l. sym (mul-assoc (inv (d .coef zero)) (d .coef (suc k)) (w (suc k) j)))
+
+  -- one more vector is in the span of independent ones, or all are independent
+  pub grow : (L r : ℕ) (w : ℕ → ℕ → F) → Independent K r (λ k. cut L w (suc k))
+      → InSpan K r (λ k. cut L w (suc k)) (cut L w zero) ⊎ Independent K (suc r) (cut L w)
+  grow L r w ind = go (kernel K L (suc r) w)
+    where
+      go : Kernel K L (suc r) w → InSpan K r (λ k. cut L w (suc k)) (cut L w zero) ⊎ Independent K (suc r) (cut L w)
+      go (inl d) = inl (head-in-span r (cut L w) ind d)
+      go (inr t) = inr (t .0)
+
+  -- the row before a matrix with a basis: it joins the basis, or is in its span already
+  module _ (L M r : ℕ) (A : ℕ → ℕ → F) (b : Basis K M r (cut L (λ i. A (suc i)))) where
+    after : ℕ → ℕ
+    after k = suc (b .choice .place k)
+
+    with-head : ℕ → ℕ
+    with-head = cons zero after
+
+    basis-step : InSpan K r (λ k. cut L A (after k)) (cut L A zero) ⊎ Independent K (suc r) (λ k. cut L A (with-head k)) → (r : ℕ) × Basis K (suc M) r (cut L A)
+    unfolding after with-head
+    basis-step (inl s) = (
+      r,
+      record {
+        choice = record { place = after; below = λ k h. (let q : b .choice .place k < M = b .choice .below k h in omega arith); free = b .choice .free };
+        spans = spans′;
+      },
+    )
+      where
+        spans′ : Within K (suc M) (cut L A) r (λ k. cut L A (after k))
+        spans′ zero h = s
+        spans′ (suc i) h = b .spans i (omega arith)
+    basis-step (inr ind) = (suc r, record { choice = record { place = with-head; below = below′; free = ind }; spans = spans′ })
+      where
+        below′ : (k : ℕ) → k < suc r → with-head k < suc M
+        below′ zero h = omega arith
+        below′ (suc k) h = let q : b .choice .place k < M = b .choice .below k (omega arith) in omega arith
+
+        spans′ : Within K (suc M) (cut L A) (suc r) (λ k. cut L A (with-head k))
+        spans′ zero h = span-member K (suc r) (λ k. cut L A (with-head k)) zero (omega arith)
+        spans′ (suc i) h = span-trans K (b .spans i (omega arith)) (λ k l. span-member K (suc r) (λ k. cut L A (with-head k)) (suc k) (omega arith))
+
+  -- every matrix has a basis among its rows
+  pub basis : (L M : ℕ) (A : ℕ → ℕ → F) → (r : ℕ) × Basis K M r (cut L A)
+  unfolding after with-head
+  basis L zero A = (
+    zero,
+    record {
+      choice = record { place = λ _. zero; below = λ k h. absurd (omega arith); free = record { only-zero = λ a v i h. absurd (omega arith) } };
+      spans = λ i h. absurd (omega arith);
+    },
+  )
+  basis L (suc M) A = go (basis L M (λ i. A (suc i)))
+    where
+      go : (r : ℕ) × Basis K M r (cut L (λ i. A (suc i))) → (r : ℕ) × Basis K (suc M) r (cut L A)
+      go t = basis-step L M (t .0) A (t .1) (grow L (t .0) (λ k. A (with-head L M (t .0) A (t .1) k)) (t .1 .choice .free))
+
+  pub rank : (L M : ℕ) (A : ℕ → ℕ → F) → (r : ℕ) × MostIndependent K M (cut L A) r
+  rank L M A = ((basis L M A) .0, most-of-basis ((basis L M A) .1))
+
+  -- independent vectors that span what the rows span are as many as the most independent rows
+  pub most-of-span : (L M n : ℕ) (A : ℕ → ℕ → F) (u : ℕ → Col L → F) → Independent K n u → Within K n u M (cut L A) → Within K M (cut L A) n u → MostIndependent K M (cut L A) n
+  most-of-span L M n A u ind up down = go (basis L M A)
+    where
+      go : (r : ℕ) × Basis K M r (cut L A) → MostIndependent K M (cut L A) n
+      go (r, b) = subst (MostIndependent K M (cut L A)) same (most-of-basis b)
+        where
+          chosen : ℕ → Col L → F
+          chosen k = cut L A (b .choice .place k)
+
+          same : r ≡ n
+          same =
+              let p : r ≤ n = steinitz K r n chosen u (b .choice .free) (λ k l. down (b .choice .place k) (b .choice .below k l)) in
+              let q : n ≤ r = steinitz K n r u chosen ind (within-trans K up (b .spans)) in
+              omega arith
+
+  pub rows-within : {J : Type 0} {M N : ℕ} {w u : ℕ → J → F} → RowsOf K M w N u → Within K M w N u
+  rows-within {N = N} {u = u} f i h = span-eq K ((f i h) .2) (span-member K N u ((f i h) .0) ((f i h) .1))
+
+  -- more rows, no smaller number
+  pub most-grows : (L M N r s : ℕ) (A B : ℕ → ℕ → F) → RowsOf K M (cut L A) N (cut L B) → MostIndependent K M (cut L A) r → MostIndependent K N (cut L B) s → r ≤ s
+  most-grows L M N r s A B sub a b = go (basis L N B)
+    where
+      go : (t : ℕ) × Basis K N t (cut L B) → r ≤ s
+      go (t, c) =
+          let e : t ≡ s = most-unique (most-of-basis c) b in
+          let p : r ≤ t = steinitz K r t (λ k. cut L A (a .some .place k)) (λ k. cut L B (c .choice .place k)) (a .some .free) (λ k l. span-trans K (rows-within sub (a .some .place k) (a .some .below k l)) (c .spans)) in
+          omega arith
+
+  -- the same rows, in any order and number: the same number
+  pub most-same : (L M N r s : ℕ) (A B : ℕ → ℕ → F) → RowsOf K M (cut L A) N (cut L B) → RowsOf K N (cut L B) M (cut L A) → MostIndependent K M (cut L A) r → MostIndependent K N (cut L B) s → r ≡ s
+  most-same L M N r s A B f g a b =
+      let p : r ≤ s = most-grows L M N r s A B f a b in
+      let q : s ≤ r = most-grows L N M s r B A g b a in
+      omega arith
+
+  -- One more row raises the number by one or leaves it, and which of the two turns on the rows alone.
+  pub most-step : (L M N r s : ℕ) (A B : ℕ → ℕ → F) (v : ℕ → F) → OneMore K L M N A B v → MostIndependent K M (cut L A) r → MostIndependent K N (cut L B) s
+      → (InSpan K M (cut L A) (λ c. v (c .0)) × (s ≡ r)) ⊎ ((¬ InSpan K M (cut L A) (λ c. v (c .0))) × (s ≡ suc r))
+  most-step L M N r s A B v one a b = go (basis L M A)
+    where
+      go : (t : ℕ) × Basis K M t (cut L A) → (InSpan K M (cut L A) (λ c. v (c .0)) × (s ≡ r)) ⊎ ((¬ InSpan K M (cut L A) (λ c. v (c .0))) × (s ≡ suc r))
+      go (t, base) = branch (grow L t (cons v chosen) (base .choice .free))
+        where
+          chosen : ℕ → ℕ → F
+          chosen k = A (base .choice .place k)
+
+          same : t ≡ r
+          same = most-unique (most-of-basis base) a
+
+          chosen-up : Within K t (cut L chosen) N (cut L B)
+          chosen-up k h = rows-within (one .all) (base .choice .place k) (base .choice .below k h)
+
+          v-up : InSpan K N (cut L B) (λ c. v (c .0))
+          v-up = span-eq K (one .new-is) (span-member K N (cut L B) (one .new) (one .new-below))
+
+          up : Within K (suc t) (cut L (cons v chosen)) N (cut L B)
+          up zero h = v-up
+          up (suc k) h = chosen-up k (omega arith)
+
+          down : {m : ℕ} {u : ℕ → Col L → F} → InSpan K m u (λ c. v (c .0)) → Within K t (cut L chosen) m u → Within K N (cut L B) m u
+          down {m} {u} iv ic i h = pick (one .only i h)
+            where
+              pick : ((k : ℕ) × (k < M) × ((c : Col L) → cut L B i c ≡ cut L A k c)) ⊎ ((c : Col L) → cut L B i c ≡ v (c .0)) → InSpan K m u (cut L B i)
+              pick (inl (k, l, e)) = span-eq K e (span-trans K (base .spans k l) ic)
+              pick (inr e) = span-eq K e iv
+
+          branch : InSpan K t (cut L chosen) (λ c. v (c .0)) ⊎ Independent K (suc t) (cut L (cons v chosen))
+              → (InSpan K M (cut L A) (λ c. v (c .0)) × (s ≡ r)) ⊎ ((¬ InSpan K M (cut L A) (λ c. v (c .0))) × (s ≡ suc r))
+          branch (inl iv) = inl (span-trans K iv (λ k h. span-member K M (cut L A) (base .choice .place k) (base .choice .below k h)), most-unique b (most-of-span L N t B (cut L chosen) (base .choice .free) chosen-up (down iv (λ k h. span-member K t (cut L chosen) k h))) ∙ same)
+          branch (inr ind) = inr (no-span, most-unique b (most-of-span L N (suc t) B (cut L (cons v chosen)) ind up (down (span-member K (suc t) (cut L (cons v chosen)) zero (omega arith)) (λ k h. span-member K (suc t) (cut L (cons v chosen)) (suc k) (omega arith)))) ∙ ap suc same)
+            where
+              no-span : ¬ InSpan K M (cut L A) (λ c. v (c .0))
+              no-span iv = absurd (let h : suc t ≤ t = steinitz K (suc t) t (cut L (cons v chosen)) (cut L chosen) ind all-in in omega arith)
+                where
+                  all-in : Within K (suc t) (cut L (cons v chosen)) t (cut L chosen)
+                  all-in zero h = span-trans K iv (base .spans)
+                  all-in (suc k) h = span-member K t (cut L chosen) k (omega arith)

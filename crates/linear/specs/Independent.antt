@@ -1,0 +1,52 @@
+-- Independent rows, and the most of them that a matrix has: what demand 3's shortfall is counted by.
+-- Assumes nothing.
+use mathlib.Core.Path.{_≡_}
+use mathlib.Core.Logic.{_≢_, _⊎_}
+use Prim.Native.Nat.{ℕ, _≤_, _<_}
+use Rattle.linear.specs.Field.{Field}
+use Rattle.linear.specs.Index.{Col, cut}
+use Rattle.linear.specs.Span.{lin, Within}
+
+module _ (K : Field) where
+  open Field K using (carrier as F, 𝟘)
+
+  module _ {J : Type 0} where
+    -- only the combination with all coefficients 0 vanishes
+    pub record Independent (n : ℕ) (w : ℕ → J → F) : Type 0 where
+      pub only-zero : (a : ℕ → F) → ((j : J) → lin K n a w j ≡ 𝟘) → (i : ℕ) → i < n → a i ≡ 𝟘
+
+    -- a vanishing combination with a coefficient other than 0
+    pub record Dependent (n : ℕ) (w : ℕ → J → F) : Type 0 where
+      pub coef : ℕ → F
+      pub vanishes : (j : J) → lin K n coef w j ≡ 𝟘
+      pub place : ℕ
+      pub below : place < n
+      pub other : coef place ≢ 𝟘
+
+    -- n of the rows w 0 .. w (M - 1) that are independent (so that no row is chosen twice: `chosen-once`)
+    pub record Choice (M n : ℕ) (w : ℕ → J → F) : Type 0 where
+      pub place : ℕ → ℕ
+      pub below : (k : ℕ) → k < n → place k < M
+      pub free : Independent n (λ k. w (place k))
+
+    -- demand 3: the most rows that are independent are r: some choice of r is, and no choice of more
+    pub record MostIndependent (M : ℕ) (w : ℕ → J → F) (r : ℕ) : Type 0 where
+      pub some : Choice M r w
+      pub most : (n : ℕ) → Choice M n w → n ≤ r
+
+    -- a choice whose span holds every row
+    pub record Basis (M r : ℕ) (w : ℕ → J → F) : Type 0 where
+      pub choice : Choice M r w
+      pub spans : Within K M w r (λ k. w (choice .place k))
+
+    -- each row of the first is a row of the second
+    abbrev pub RowsOf : ℕ → (ℕ → J → F) → ℕ → (ℕ → J → F) → Type 0
+    RowsOf M w N u = (i : ℕ) → i < M → (k : ℕ) × (k < N) × ((j : J) → w i j ≡ u k j)
+
+  -- B has the rows of A and the row v
+  pub record OneMore (L M N : ℕ) (A B : ℕ → ℕ → F) (v : ℕ → F) : Type 0 where
+    pub all : RowsOf M (cut L A) N (cut L B)
+    pub new : ℕ
+    pub new-below : new < N
+    pub new-is : (c : Col L) → v (c .0) ≡ cut L B new c
+    pub only : (i : ℕ) → i < N → ((k : ℕ) × (k < M) × ((c : Col L) → cut L B i c ≡ cut L A k c)) ⊎ ((c : Col L) → cut L B i c ≡ v (c .0))
