@@ -1,10 +1,10 @@
 // Rand, degrees, parameter rows, the shift and tuples (RFC 6330, sections 5.3.5, 5.5 and 5.6). A row is its five numbers K', J, S, H, W.
 ghost use mathlib.Core.Path.{_≡_};
-ghost use Rattle.headers.specs.Degree.{asked as degreeAsked};
-ghost use Rattle.headers.specs.Rand.{asked as randAsked};
+ghost use Rattle.headers.specs.Degree.{answer as degreeAnswer};
+ghost use Rattle.headers.specs.Rand.{answer as randAnswer};
 ghost use Rattle.headers.specs.Row.{checked};
-ghost use Rattle.headers.specs.Shift.{asked as shiftAsked};
-ghost use Rattle.headers.specs.Tuples.{asked as tupleAsked};
+ghost use Rattle.headers.specs.Shift.{answer as shiftAnswer};
+ghost use Rattle.headers.specs.Tuples.{answer as tupleAnswer};
 ghost use Rattle.exports.specs.Call.{Called, listed, one, thenRoomed};
 ghost use Rattle.exports.specs.Numbers.{row, sizeNumbers, tupleNumbers};
 use crate::values::hand;
@@ -23,7 +23,7 @@ use headers::tuple::Generated;
 
 #[no_mangle]
 pub extern "C" fn spoonripple_rand(tables: &[u32], y: u32, i: u8, m: u32, out: &mut [u64]) -> u32
-    ensures { λ r. ⌜ Called (thenRoomed (now (out .entry)) (listed one (randAsked (now (tables .entry)) y i m))) (now (out .entry)) (now (out .exit)) r ⌝ }
+    ensures { λ r. ⌜ Called (thenRoomed (now (out .entry)) (listed one (randAnswer (now (tables .entry)) y i m))) (now (out .entry)) (now (out .exit)) r ⌝ }
 {
     match rng::rand(tables, y, i, m) {
         Number::Value(x) => {
@@ -36,7 +36,7 @@ pub extern "C" fn spoonripple_rand(tables: &[u32], y: u32, i: u8, m: u32, out: &
 
 #[no_mangle]
 pub extern "C" fn spoonripple_deg(v: u32, w: u32, out: &mut [u64]) -> u32
-    ensures { λ r. ⌜ Called (thenRoomed (now (out .entry)) (listed one (degreeAsked v w))) (now (out .entry)) (now (out .exit)) r ⌝ }
+    ensures { λ r. ⌜ Called (thenRoomed (now (out .entry)) (listed one (degreeAnswer v w))) (now (out .entry)) (now (out .exit)) r ⌝ }
 {
     match deg::deg(v, w) {
         Number::Value(x) => {
@@ -80,7 +80,7 @@ pub extern "C" fn spoonripple_isi(
     esi: u32,
     out: &mut [u64],
 ) -> u32
-    ensures { λ r. ⌜ Called (thenRoomed (now (out .entry)) (listed one (shiftAsked (row k j s h w) count esi))) (now (out .entry)) (now (out .exit)) r ⌝ }
+    ensures { λ r. ⌜ Called (thenRoomed (now (out .entry)) (listed one (shiftAnswer (row k j s h w) count esi))) (now (out .entry)) (now (out .exit)) r ⌝ }
 {
     match ids::isi_of(Row { k, j, s, h, w }, count, Esi(esi)) {
         Shifted::Value(x) => {
@@ -103,7 +103,7 @@ pub extern "C" fn spoonripple_tuple(
     isi: u32,
     out: &mut [u64],
 ) -> u32
-    ensures { λ r. ⌜ Called (thenRoomed (now (out .entry)) (listed tupleNumbers (tupleAsked (row k j s h w) (now (tables .entry)) isi))) (now (out .entry)) (now (out .exit)) r ⌝ }
+    ensures { λ r. ⌜ Called (thenRoomed (now (out .entry)) (listed tupleNumbers (tupleAnswer (row k j s h w) (now (tables .entry)) isi))) (now (out .entry)) (now (out .exit)) r ⌝ }
 {
     let x = ids::beneath::row_number(isi);
     match tuple::intermediate_tuple(Row { k, j, s, h, w }, tables, x) {
