@@ -1,9 +1,16 @@
 //! `differential AREA [COUNT] [SEED]`: see the script `run` beside this folder.
 mod field;
 mod headers;
+mod vectors;
 
 fn main() {
     let words: Vec<String> = std::env::args().skip(1).collect();
+    if let [command, folder] = words.as_slice() {
+        if command == "vectors" {
+            vectors::write(folder).expect("the files are written");
+            return;
+        }
+    }
     let number = |at: usize, default: u64| words.get(at).map_or(Ok(default), |w| w.parse());
     let (Some(area), Ok(count), Ok(seed)) = (words.first(), number(1, 1_000_000), number(2, 1)) else {
         eprintln!("usage: run AREA [COUNT] [SEED]");
