@@ -42,6 +42,40 @@ uint32_t spoonripple_run_add(uint8_t *dst, size_t dst_len, const uint8_t *src, s
 uint32_t spoonripple_run_scale(uint8_t *dst, size_t dst_len, uint8_t c);
 uint32_t spoonripple_run_fma(uint8_t *dst, size_t dst_len, const uint8_t *src, size_t src_len, uint8_t c);
 
+/* Payload ids (RFC 6330, 3.2): 4 bytes. Reading: out[0..2] block number, ESI; 8 (not 4 bytes, or no room).
+ * Writing: 4 bytes at the front of store; 9 (esi of 2^24 or more), then 8 (store below 4 bytes). */
+uint32_t spoonripple_payload_id_read(const uint8_t *bytes, size_t len, uint64_t *out, size_t out_len);
+uint32_t spoonripple_payload_id_write(uint8_t sbn, uint32_t esi, uint8_t *store, size_t store_len);
+
+/* Transmission information (3.3.2, 3.3.3): 12 bytes. Reading applies no rule: out[0..5] F, T, Z, N, Al; 8.
+ * Writing: 2 (f of 2^40 or more), then 8; the reserved byte is written 0. The check: 3 where a rule of docs/01-scope.md is broken. */
+uint32_t spoonripple_transmission_read(const uint8_t *bytes, size_t len, uint64_t *out, size_t out_len);
+uint32_t spoonripple_transmission_write(uint64_t f, uint16_t t, uint8_t z, uint16_t n, uint8_t al, uint8_t *store, size_t store_len);
+uint32_t spoonripple_transmission_check(uint64_t f, uint16_t t, uint8_t z, uint16_t n, uint8_t al);
+
+/* Packets (4.4.2). Reading: out[0..4] block number, ESI, where the symbols' bytes begin, how many they are; 8 (below 4 bytes).
+ * Writing: the id and the bytes at the front of store; 9, then 8 (store below 4 + len). */
+uint32_t spoonripple_packet_read(const uint8_t *bytes, size_t len, uint64_t *out, size_t out_len);
+uint32_t spoonripple_packet_write(uint8_t sbn, uint32_t esi, const uint8_t *bytes, size_t len, uint8_t *store, size_t store_len);
+
+/* Partition[i, j] (4.4.1.2): out[0..4] IL, IS, JL, JS; 2 (j is 0), then 8. */
+uint32_t spoonripple_partition(uint32_t i, uint32_t j, uint64_t *out, size_t out_len);
+
+/* Rand (5.3.5.1) over the tables V0, V1, V2, V3, 1,024 numbers: out[0]; 5 (another length), 2 (m is 0), then 8. */
+uint32_t spoonripple_rand(const uint32_t *tables, size_t len, uint32_t y, uint8_t i, uint32_t m, uint64_t *out, size_t out_len);
+
+/* Deg[v] (5.3.5.2) for w LT symbols: out[0]; 2 (v of 2^20 or more, w below 2), then 8. */
+uint32_t spoonripple_deg(uint32_t v, uint32_t w, uint64_t *out, size_t out_len);
+
+/* The parameter row K', J, S, H, W (5.6): out[0..4] L, P, B, P1; 4 (a rule of docs/01-scope.md is broken), then 8. */
+uint32_t spoonripple_row_check(uint32_t k, uint32_t j, uint32_t s, uint32_t h, uint32_t w, uint64_t *out, size_t out_len);
+
+/* The ISI of an ESI in a block of count source symbols: out[0]; 4, 9 (count not in 1..K', esi of 2^24 or more), then 8. */
+uint32_t spoonripple_isi(uint32_t k, uint32_t j, uint32_t s, uint32_t h, uint32_t w, uint32_t count, uint32_t esi, uint64_t *out, size_t out_len);
+
+/* The tuple of an ISI of any 32 bits (5.3.5.4): out[0..6] d, a, b, d1, a1, b1; 4, 5, then 8. */
+uint32_t spoonripple_tuple(uint32_t k, uint32_t j, uint32_t s, uint32_t h, uint32_t w, const uint32_t *tables, size_t len, uint32_t isi, uint64_t *out, size_t out_len);
+
 #ifdef __cplusplus
 }
 #endif
