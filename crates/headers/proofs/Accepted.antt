@@ -80,7 +80,7 @@ module _ {r : Row} (o : Obeys r) where
   not-4 e = o .w-prime .alone 2 (omega arith) (omega arith) (ap (λ (n : ℕ). n % 2) e)
 
   pub w-low : 5 ≤ r .w
-  w-low = let f : r .w ≡ 4 → ⊥ = not-4 in go (ℕ-discrete (r .w) 4)
+  w-low = go (ℕ-discrete (r .w) 4)
     where
       go : Dec (r .w ≡ 4) → 5 ≤ r .w
       go (yes e) = absurd (not-4 e)
