@@ -7,6 +7,7 @@ use Prim.Native.Nat.{ℕ, _+_, _-_, _%_, _≤_, _<_}
 use native.Mathlib.Decide.{ℕ-discrete}
 use native.Mathlib.Omega.{arith}
 use lib.ListN.{length}
+use borrow.Author.Tests.{not-false}
 use Rattle.field.specs.Answer.{given, refused, unless}
 use Rattle.field.proofs.Answers.{given-only, refused-only, given-not-refused}
 use Rattle.headers.specs.Prime.{Prime, FirstFrom, clear, prime}
@@ -14,7 +15,7 @@ use Rattle.headers.specs.Row.{Obeys, obeys, between, sixteen, bands, lOf
 use Rattle.headers.specs.Tuples.{Ready}
 use Rattle.headers.specs.declared.row.Row.{Row}
 use Rattle.headers.specs.declared.row.Sizes.{Sizes}
-use Rattle.headers.proofs.Tests.{Tells, tells-both, tells-as, tells-le, tells-lt, tells-eq, is-true, is-false, tells-true, passed}
+use Rattle.headers.proofs.Tests.{Tells, tells-both, tells-as, tells-le, tells-lt, tells-eq, is-true, is-false, tells-true, passed, given-past}
 use Rattle.headers.proofs.Primes.{trial, clear-tells, prime-tells, first-from, first-high}
 
 within : (low n high : ℕ) → Tells (between low n high) ((low ≤ n) × (n ≤ high))
@@ -79,7 +80,7 @@ module _ {r : Row} (o : Obeys r) where
   not-4 e = o .w-prime .alone 2 (omega arith) (omega arith) (ap (λ (n : ℕ). n % 2) e)
 
   pub w-low : 5 ≤ r .w
-  w-low = let f : r .w ≡ 4 → ⊥ = not-4 in go (ℕ-discrete (r .w) 4)
+  w-low = go (ℕ-discrete (r .w) 4)
     where
       go : Dec (r .w ≡ 4) → 5 ≤ r .w
       go (yes e) = absurd (not-4 e)
@@ -127,11 +128,9 @@ module _ {r : Row} (o : Obeys r) where
 -- what the answer of a check tells
 module _ (r : Row) where
   pub accepted : (z : Sizes) → given z ≡ checked r → (Obeys r) × (z ≡ sizesOf r)
-  accepted z = go (obeys r) (obeys-tells r)
-    where
-      go : (b : Bool) → Tells b (Obeys r) → given z ≡ unless (not b) 4 (given (sizesOf r)) → (Obeys r) × (z ≡ sizesOf r)
-      go true t e = (t .passes refl, given-only z (sizesOf r) e)
-      go false t e = absurd (given-not-refused z 4 e)
+  accepted z e =
+      let p = given-past (not (obeys r)) 4 (given (sizesOf r)) z e in
+      (obeys-tells r .passes (not-false (obeys r) (p .0)), given-only z (sizesOf r) (p .1))
 
   pub rejected : (n : ℕ) → refused n ≡ checked r → (n ≡ 4) × (Obeys r → ⊥)
   rejected n = go (obeys r) (obeys-tells r)

@@ -1,19 +1,26 @@
 -- What the generator draws is the tuple; it is within its bounds; and d1 is 3 only when d is below 4.
 -- Assumes nothing.
-use mathlib.Core.Path.{_≡_}
-use mathlib.Core.Bool.{Bool, true, false}
+use mathlib.Core.Path.{_≡_, sym, subst}
+use mathlib.Core.Bool.{Bool, true, false, not}
 use mathlib.Core.List.{List}
 use Prim.Native.Nat.{ℕ, _+_, _-_, _*_, _<_, _≤_}
 use native.Mathlib.Decide.{decLt}
 use native.Mathlib.Nat.{mul-le-mul, mod-lt}
 use native.Mathlib.Omega.{arith}
-use borrow.Author.Tests.{le-ltb}
-use lib.Dec.{ltb}
+use borrow.Author.Tests.{le-ltb, eqb-true, not-false}
+use lib.Dec.{ltb, eqb}
+use lib.ListN.{length}
 use Rattle.field.specs.Choice.{pick}
+use Rattle.field.specs.Answer.{given, unless}
+use Rattle.field.proofs.Answers.{given-only}
 use Rattle.headers.specs.Rand.{mixed, random}
 use Rattle.headers.specs.Degree.{degree}
-use Rattle.headers.specs.Tuples.{seed, piDegree, tupleOf, Bounds, Ready}
+use Rattle.headers.specs.Tuples.{seed, piDegree, tupleOf, Bounds, Ready, answer}
+use Rattle.headers.specs.Row.{Obeys, obeys, p1Of}
+use Rattle.headers.specs.declared.row.Row.{Row}
 use Rattle.headers.specs.declared.tuple.Tuple.{Tuple}
+use Rattle.headers.proofs.Tests.{given-past}
+use Rattle.headers.proofs.Accepted.{obeys-tells, ready}
 use Rattle.headers.proofs.Rising.{degree-high, degree-low, degree-w}
 
 pub random-lt : (v : List ℕ) (y i m : ℕ) → 0 < m → random v y i m < m
@@ -72,3 +79,24 @@ bounded {v} {j} {w} {p1} h x =
 pub three-below-four : (v : List ℕ) (j w p1 x : ℕ) → tupleOf v j w p1 x .d1 ≡ 3 → tupleOf v j w p1 x .d < 4
 unfolding tupleOf
 three-below-four v j w p1 x = pi-degree-three v (degree (random v (seed j x) 0 1048576) w) x
+
+-- what the generator's answer tells
+module _ (r : Row) (v : List ℕ) (x : ℕ) (t : Tuple) (e : given t ≡ answer r v x) where
+  pub generated : (Obeys r) × (length v ≡ 1024) × (t ≡ tupleOf v (r .j) (r .w) (p1Of r) x)
+  generated =
+      let rest = given (tupleOf v (r .j) (r .w) (p1Of r) x) in
+      let p = given-past (not (obeys r)) 4 (unless (not (eqb (length v) 1024)) 5 rest) t e in
+      let q = given-past (not (eqb (length v) 1024)) 5 rest t (p .1) in (
+        obeys-tells r .passes (not-false (obeys r) (p .0)),
+        eqb-true (length v) 1024 (not-false (eqb (length v) 1024) (q .0)),
+        given-only t (tupleOf v (r .j) (r .w) (p1Of r) x) (q .1),
+      )
+
+  pub generated-bounds : Bounds (r .w) (p1Of r) t
+  generated-bounds =
+      let g = generated in
+      subst (Bounds (r .w) (p1Of r)) (sym (g .2)) (bounded (ready (g .0) (g .1)) x)
+
+  pub generated-three : t .d1 ≡ 3 → t .d < 4
+  generated-three =
+      subst (λ (u : Tuple). u .d1 ≡ 3 → u .d < 4) (sym (generated .2)) (three-below-four v (r .j) (r .w) (p1Of r) x)
