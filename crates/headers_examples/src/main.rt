@@ -1,4 +1,5 @@
 // The examples of layer 2 that are run: the header program's work on each file of data/, and partitions.
+use header_text::beneath;
 use headers::partition;
 use libc::STDOUT_FILENO;
 
@@ -9,21 +10,29 @@ fn header(name: &[u8]) {
     let mut input = io::buffer();
     let n = io::read_full(fd, &mut input);
     libc::close(fd);
-    header_text::print(&input[..n]);
+    let mut out = io::buffer();
+    let len = beneath::text(&input[..n], &mut out);
+    io::write_all(STDOUT_FILENO, &out[..len]);
+}
+
+fn number(label: &[u8], x: u32) {
+    io::write_all(STDOUT_FILENO, label);
+    io::print_decimal(STDOUT_FILENO, x as u64);
+    io::write_all(STDOUT_FILENO, b"\n");
 }
 
 fn parts(i: u32, j: u32) {
-    header_text::print_number(b"partition ", i as u64);
-    header_text::print_number(b"into ", j as u64);
+    number(b"partition ", i);
+    number(b"into ", j);
     let answer = partition::partition(i, j);
     match answer {
         partition::Answer::Parts { il, is, jl, js } => {
-            header_text::print_number(b"IL ", il as u64);
-            header_text::print_number(b"IS ", is as u64);
-            header_text::print_number(b"JL ", jl as u64);
-            header_text::print_number(b"JS ", js as u64);
+            number(b"IL ", il);
+            number(b"IS ", is);
+            number(b"JL ", jl);
+            number(b"JS ", js);
         }
-        partition::Answer::Refused(why) => header_text::print_refusal(why),
+        partition::Answer::Refused(why) => number(b"refused ", field::refusal::number(why)),
     }
 }
 

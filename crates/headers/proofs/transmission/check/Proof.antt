@@ -18,7 +18,7 @@ aligned : (o : ObjectTransmissionInformation) → (o .«symbol_alignment» ≡ 0
 aligned o = ne-eqb (o .«symbol_alignment») 0
 
 returns : tie.Need-returns
-returns c = rw (lt-ltb 942574504275 _ (c .if1 .taken))
+returns c = rw (lt-ltb 942574504275 (c .before .before .args .info .«transfer_length») (omega arith))
 
 returns-2 : tie.Need-returns-2
 returns-2 c = rw (fine (c .before .before .before .before .args .info) (omega arith), c .if2 .taken)

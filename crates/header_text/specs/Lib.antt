@@ -1,0 +1,2 @@
+-- What the contracts of `header_text` cite.
+pub mod Text
