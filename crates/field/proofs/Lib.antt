@@ -3,5 +3,6 @@ pub mod Computed
 pub mod Xor
 pub mod Laws
 pub mod Writing
+pub mod Parts
 pub mod Answers
 mod Examples
