@@ -5,4 +5,5 @@ pub mod Laws
 pub mod Writing
 pub mod Parts
 pub mod Answers
+pub mod Refusals
 mod Examples

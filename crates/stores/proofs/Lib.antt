@@ -1,5 +1,5 @@
--- The laws of `stores`. A crate above names these as `Rattle.stores.proofs.Slabs`.
-pub mod Symbols
-pub mod Refusals
-pub mod Slabs
-pub mod SlabsOnce
+-- The laws of `stores`. A crate above names these as `Rattle.stores.proofs.Bits`.
+pub mod Bits
+pub mod Rows
+pub mod Columns
+pub mod Counting

@@ -1,4 +1,2 @@
-// The stores that every row operation works on, over lent memory: a binary matrix in words, symbols in bytes.
-pub mod answer;
+// Rows of bits over lent words: the binary matrix that every row operation works on.
 pub mod beneath;
-pub mod symbol_slab;
