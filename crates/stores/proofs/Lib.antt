@@ -3,3 +3,4 @@ pub mod Bits
 pub mod Rows
 pub mod Columns
 pub mod Counting
+pub mod Shapes

@@ -2,3 +2,4 @@
 pub mod Bits
 pub mod Rows
 pub mod Counting
+pub mod Matrix
