@@ -2,10 +2,10 @@
 -- Assumes nothing.
 use mathlib.Core.Path.{_≡_, sym, ap, _∙_}
 use Prim.Native.Nat.{ℕ, zero, suc, _+_, _-_, _*_, _/_, _%_, _^_, _≤_, _<_}
-use native.Mathlib.Nat.{mod-lt, mul-div-cancel, mod-eq-of-lt, div-eq-of-lt, mul-mod-left, mul-assoc, mul-comm, pow-suc, lt-of-lt-of-le, div-one, div-div-eq-div-mul}
+use native.Mathlib.Nat.{mod-lt, zero-mul, mul-div-cancel, mod-eq-of-lt, div-eq-of-lt, mul-mod-left, mul-assoc, mul-comm, pow-suc, lt-of-lt-of-le, div-one, div-div-eq-div-mul}
 use native.Mathlib.Decide.{decLt}
 use native.Mathlib.Omega.{arith}
-use lib.Bits.{bitXor, xor-zero-r, xor-lt, xor-shr, xor-mod}
+use lib.Bits.{bitXor, xor-zero-r, xor-self, xor-lt, xor-shr, xor-mod}
 use lib.Pow.{pow-pos, pow-add, pow-mono, shl-lt, shl-exact}
 use Rattle.field.proofs.Xor.{cancel}
 use Rattle.stores.specs.Bits.{bit, withBit}
@@ -47,6 +47,11 @@ pub with-other : (w b v k : ℕ) → v < 2 → (k ≡ b → ⊥) → bit (withBi
 unfolding withBit
 with-other w b v k h n =
     xor-bit w (bitXor (bit w b) v * 2 ^ b) k ∙ ap (bitXor (bit w k)) (at-other (bitXor (bit w b) v) b k (flip-lt w b v h) n) ∙ xor-zero-r (bit w k)
+
+-- a bit made what it is
+pub with-self : (w b : ℕ) → withBit w b (bit w b) ≡ w
+unfolding withBit
+with-self w b = ap (λ (x : ℕ). bitXor w (x * 2 ^ b)) (xor-self (bit w b)) ∙ ap (bitXor w) (zero-mul (2 ^ b)) ∙ xor-zero-r w
 
 -- as a machine word computes it
 pub flipped : (w b v : ℕ) → b < 64 → v < 2 → bitXor w (bitXor (w / 2 ^ b % 2) v * 2 ^ b % 2 ^ 64) ≡ withBit w b v

@@ -1,18 +1,20 @@
 -- Rows of words: sums, exchanges and moves, a word at a time.
 -- Assumes nothing.
-use mathlib.Core.Path.{_≡_, refl, sym, ap₂, _∙_, subst}
+use mathlib.Core.Path.{_≡_, refl, sym, ap, ap₂, _∙_, subst}
 use mathlib.Core.List.{List}
 use mathlib.Core.Logic.{_⊎_, inl, inr, ⊎-elim}
-use Prim.Native.Nat.{ℕ, _+_, _-_, _≤_, _<_}
+use Prim.Native.Nat.{ℕ, _+_, _-_, _*_, _/_, _%_, _≤_, _<_}
+use native.Mathlib.Nat.{zero-add, mul-zero, div-lt-iff-lt-mul, mul-le-mul-left, div-add-mod'}
 use native.Mathlib.Decide.{decLt}
 use native.Mathlib.Omega.{arith}
+use lib.Arith.{digits-div, digits-mod}
 use lib.ListN.{length, getD, set, length-set}
 use lib.Seq.{getD-set-same, getD-set-other, ext-getD}
 use Rattle.field.specs.Octet.{plus}
 use Rattle.field.specs.Runs.{Written, added}
-use Rattle.field.proofs.Writing.{written-next}
-use Rattle.field.proofs.Parts.{part-at}
-use Rattle.stores.specs.Rows.{row, Apart, Exchanged}
+use Rattle.field.proofs.Writing.{written-next, written-same, written-is}
+use Rattle.field.proofs.Parts.{part-at, written-then}
+use Rattle.stores.specs.Rows.{row, packedTo, Apart, Exchanged}
 
 -- the next word of a sum: neither row has changed there yet
 pub sum-next : {xs ys : List ℕ} {to from n k : ℕ} → Written (added xs to (row xs from n)) xs ys to k → Apart (length xs) n to from → k < n
@@ -97,3 +99,28 @@ exchanged-once {xs} {ys} {zs} {i} {j} {n} e u = ext-getD 0 ys zs (e .size ∙ sy
     go q (no a) (no b) (yes c) d = outside q (inr (omega arith)) (inl c)
     go q (no a) (no b) (no c) (yes d) = second q (omega arith) d
     go q (no a) (no b) (no c) (no d) = outside q (inr (omega arith)) (inr (omega arith))
+
+-- a word of the first m rows of n words is in one of them
+pub below-row : (m n k start : ℕ) → k < m * n → m ≤ start → k / n < start
+below-row m n k start h l = go (decLt 0 n)
+  where
+    go : Dec (0 < n) → k / n < start
+    go (yes p) = let q : k / n < m = div-lt-iff-lt-mul p .1 h in omega arith
+    go (no p) =
+        let z : n ≡ 0 = omega arith in
+        let e : m * n ≡ 0 = ap (λ (i : ℕ). m * i) z ∙ mul-zero m in
+        absurd (omega arith)
+
+module _ (xs : List ℕ) (n old : ℕ) where
+  pub packed-same : (m : ℕ) → n ≡ old → Written (packedTo xs n old) xs xs 0 (m * n)
+  packed-same m e =
+      written-same (packedTo xs n old) xs (m * n)
+      (λ k h. ap (λ (i : ℕ). getD xs i 0) (sym (div-add-mod' k n) ∙ ap (λ (i : ℕ). k / n * i + k % n) e))
+
+  -- a row more: it is read where no row was packed to
+  pub packed-more : (ys zs : List ℕ) (r : ℕ) → n ≤ old → Written (packedTo xs n old) xs ys 0 (r * n)
+      → Written (λ k. getD ys (r * old + k) 0) ys zs (r * n) n → Written (packedTo xs n old) xs zs 0 ((r + 1) * n)
+  packed-more ys zs r h w u =
+      written-is
+      (written-then w (subst (λ (i : ℕ). Written (λ k. getD ys (r * old + k) 0) ys zs i n) (sym (zero-add (r * n))) u)
+      (λ k l. w .high (r * old + k) (omega (arith, mul-le-mul-left r h)) ∙ sym (simp (digits-div r l, digits-mod r l)))) (omega arith)

@@ -1,19 +1,19 @@
 -- A binary matrix in its store: what a call that is not refused knows of its places.
 -- Assumes nothing.
-use mathlib.Core.Path.{_≡_, refl, sym, ap, _∙_}
+use mathlib.Core.Path.{_≡_}
 use mathlib.Core.Logic.{_⊎_, inl, inr}
 use Prim.Native.Nat.{ℕ, _+_, _-_, _*_, _/_, _≤_, _<_}
 use native.Mathlib.Nat.{mul-le-mul-right}
 use native.Mathlib.Decide.{decLt}
 use native.Mathlib.Omega.{arith}
-use borrow.Author.Tests.{ltb-false, leb-false, eqb-false}
+use borrow.Author.Tests.{ltb-false, leb-false}
 use lib.Dec.{eqb, ltb, leb}
 use mathlib.Core.Bool.{Bool, true, false}
 use Rattle.field.specs.Choice.{pick}
-use Rattle.field.specs.Answer.{Outcome, given}
+use Rattle.field.specs.Answer.{given}
 use Rattle.field.proofs.Refusals.{passed, passed-before}
 use Rattle.stores.specs.Rows.{Apart}
-use Rattle.stores.specs.Matrix.{rowWords, wordsOf, rowAt, oneOf, limited, stored, placed, ranged, roomy, paired, summed, spanned, listable}
+use Rattle.stores.specs.Matrix.{rowWords, wordsOf, rowAt, oneOf, limited, stored, placed, ranged, roomy, paired, spanned, listable, shrinkable}
 use Rattle.stores.specs.declared.matrix.DenseBinaryMatrix.{DenseBinaryMatrix}
 
 pub limited-well : (height width : ℕ) → limited height width ≡ given tt → (height ≤ 131070) × (width ≤ 65535)
@@ -85,3 +85,76 @@ one-lt v = go (eqb v 0)
     go : (t : Bool) → pick t 0 1 < 2
     go true = omega arith
     go false = omega arith
+
+pub record Spanned (len : ℕ) (m : DenseBinaryMatrix) (i start end : ℕ) : Type 0 where
+  pub store : Stored len m
+  pub inside : i < m .height
+  pub rising : start ≤ end
+  pub ends : end ≤ m .width
+
+pub spanned-well : (len : ℕ) (m : DenseBinaryMatrix) (i start end : ℕ) → spanned len m i start end ≡ given tt → Spanned len m i start end
+spanned-well len m i start end e =
+    let a = passed-before (stored len m) _ tt e in
+    let b = passed-before (placed (m .height) i) _ tt (a .2) in
+    let r = ranged-well (m .width) start end (b .2) in
+    record { store = stored-well len m (a .1); inside = placed-well (m .height) i (b .1); rising = r .0; ends = r .1 }
+
+pub record Listable (len : ℕ) (m : DenseBinaryMatrix) (room n i k start end : ℕ) : Type 0 where
+  pub store : Stored len m
+  pub roomy : end - start ≤ room
+  pub inside : i < n
+  pub rising : start ≤ end
+  pub ends : end ≤ k
+
+pub listable-well : (len : ℕ) (m : DenseBinaryMatrix) (room n i k start end : ℕ) → listable len m room n i k start end ≡ given tt
+    → Listable len m room n i k start end
+listable-well len m room n i k start end e =
+    let a = passed-before (stored len m) _ tt e in
+    let b = passed-before (roomy room start end) _ tt (a .2) in
+    let c = passed-before (placed n i) _ tt (b .2) in
+    let r = ranged-well k start end (c .2) in
+    record {
+      store = stored-well len m (a .1);
+      roomy = ltb-false _ _ (passed (ltb room (end - start)) 8 _ tt (b .1) .0);
+      inside = placed-well n i (c .1);
+      rising = r .0;
+      ends = r .1;
+    }
+
+-- the columns up to `end` lie in the row's words
+pub span-in : {len : ℕ} {m : DenseBinaryMatrix} {i start end : ℕ} → Stored len m → i < m .height → start ≤ end → end ≤ m .width
+    → (start + (end - start) ≤ 65535) × (rowAt m i + (start + (end - start) + 63) / 64 ≤ len)
+span-in {len} {m} {i} {start} {end} s h l k =
+    let e : start + (end - start) ≡ end = omega arith in
+    rw e (omega (arith, s .wide), omega (arith, row-in s h))
+
+-- the rows up to `end` lie in the store
+pub rows-in : {len : ℕ} {m : DenseBinaryMatrix} {start end : ℕ} → Stored len m → start ≤ end → end ≤ m .height
+    → ((start + (end - start)) * rowWords (m .width) ≤ len) × (start + (end - start) < 4294967296)
+rows-in {len} {m} {start} {end} s l k =
+    let e : start + (end - start) ≡ end = omega arith in
+    rw e (omega (arith, mul-le-mul-right (rowWords (m .width)) k, s .room), omega (arith, s .tall))
+
+pub record Shrinkable (len : ℕ) (m new : DenseBinaryMatrix) : Type 0 where
+  pub store : Stored len m
+  pub wide : new .width ≤ 65535
+  pub shorter : new .height ≤ m .height
+  pub narrower : new .width ≤ m .width
+
+pub shrinkable-well : (len : ℕ) (m new : DenseBinaryMatrix) → shrinkable len m new ≡ given tt → Shrinkable len m new
+shrinkable-well len m new e =
+    let a = passed-before (limited (new .height) (new .width)) _ tt e in
+    let b = passed-before (stored len m) _ tt (a .2) in
+    let c = passed (ltb (m .height) (new .height)) 6 _ tt (b .2) in
+    let d = passed (ltb (m .width) (new .width)) 6 _ tt (c .1) in
+    record {
+      store = stored-well len m (b .1);
+      wide = limited-well (new .height) (new .width) (a .1) .1;
+      shorter = ltb-false _ _ (c .0);
+      narrower = ltb-false _ _ (d .0);
+    }
+
+-- the rows that are kept lie in the store, and their words among the old
+pub shrunk-in : {len : ℕ} {m new : DenseBinaryMatrix} → Shrinkable len m new
+    → (rowWords (new .width) ≤ rowWords (m .width)) × (new .height * rowWords (m .width) ≤ len)
+shrunk-in {len} {m} {new} s = (omega (arith, s .narrower), omega (arith, mul-le-mul-right (rowWords (m .width)) (s .shorter), s .store .room))

@@ -3,7 +3,7 @@
 use mathlib.Core.List.{List}
 use Prim.Native.Nat.{ℕ, _+_, _*_, _/_, _%_, _^_}
 use lib.Bits.{bitXor}
-use lib.Dec.{eqb}
+use lib.Dec.{eqb, ltb}
 use lib.ListN.{getD}
 use Rattle.field.specs.Choice.{pick}
 
@@ -26,3 +26,7 @@ moved o c v w = pick (eqb o (c / 64)) (withBit w (c % 64) v) w
 -- word o of the row at `at`, when its columns a and b have changed places
 unfoldable pub crossing : List ℕ → ℕ → ℕ → ℕ → ℕ → ℕ
 crossing ws at a b o = moved o b (bitAt ws at a) (moved o a (bitAt ws at b) (getD ws (at + o) 0))
+
+-- word k of rows of n words, when columns a and b have changed places from row `start` on
+abbrev pub crossedFrom : List ℕ → ℕ → ℕ → ℕ → ℕ → ℕ → ℕ
+crossedFrom ws n a b start k = pick (ltb (k / n) start) (getD ws k 0) (crossing ws (k / n * n) a b (k % n))

@@ -18,6 +18,10 @@ unfoldable pub ones : (ℕ → ℕ) → ℕ → ℕ → List ℕ
 ones f start zero = []
 ones f start (suc n) = pick (eqb (f (start + n)) 0) (ones f start n) (ones f start n ++ ((start + n) ∷ []))
 
+-- the list l stands at the front of a store; the rest of its room stays
+abbrev pub AtFront : List ℕ → List ℕ → List ℕ → Type 0
+AtFront l xs ys = Written (λ k. getD l k 0) xs ys 0 (length l)
+
 -- r of them were written to the front of a store; the rest of its room stays
 pub record Listed (f : ℕ → ℕ) (start n : ℕ) (xs ys : List ℕ) (r : ℕ) : Type 0 where
   pub many : r ≡ length (ones f start n)

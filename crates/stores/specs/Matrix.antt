@@ -2,13 +2,11 @@
 -- and what the others leave.
 -- Assumes nothing.
 use mathlib.Core.List.{List}
-use Prim.Native.Nat.{ℕ, _+_, _-_, _*_, _/_, _%_}
+use Prim.Native.Nat.{ℕ, _+_, _-_, _*_, _/_}
 use lib.Dec.{eqb, ltb, leb}
-use lib.ListN.{length, getD}
 use Rattle.field.specs.Answer.{Outcome, given, refused, unless, before, numberOf}
 use Rattle.field.specs.Choice.{pick}
-use Rattle.stores.specs.Bits.{bitAt, crossing}
-use Rattle.stores.specs.Counting.{tally, ones}
+use Rattle.stores.specs.Bits.{bitAt}
 use Rattle.stores.specs.declared.matrix.DenseBinaryMatrix.{DenseBinaryMatrix}
 use Rattle.stores.specs.declared.matrix.Made.{Made}
 use Rattle.stores.specs.declared.matrix.Made.the-variants as Mades
@@ -77,24 +75,17 @@ listable len m room n i k start end = before (stored len m) (before (roomy room 
 abbrev pub fresh : ℕ → DenseBinaryMatrix → Outcome DenseBinaryMatrix
 fresh len m = before (stored len m) (given m)
 
--- a smaller one; one that grows is refused
-abbrev pub shrunk : ℕ → DenseBinaryMatrix → DenseBinaryMatrix → Outcome DenseBinaryMatrix
-shrunk len m new =
+-- a smaller one: too large a number is refused as such, one that grows as outside
+abbrev pub shrinkable : ℕ → DenseBinaryMatrix → DenseBinaryMatrix → Outcome (Unit {0})
+shrinkable len m new =
     before (limited (new .height) (new .width))
     (before (stored len m)
     (unless (ltb (m .height) (new .height)) 6
     (unless (ltb (m .width) (new .width)) 6
-    (given new))))
+    (given tt))))
 
--- word k of the smaller matrix: its rows are packed to the front
-abbrev pub packed : List ℕ → DenseBinaryMatrix → DenseBinaryMatrix → ℕ → ℕ
-packed ws m new k = getD ws (rowAt m (k / rowWords (new .width)) + k % rowWords (new .width)) 0
-
--- word k when columns a and b have changed places from row `start` on
-abbrev pub crossed : List ℕ → DenseBinaryMatrix → ℕ → ℕ → ℕ → ℕ → ℕ
-crossed ws m a b start k =
-    pick (ltb (k / rowWords (m .width)) start) (getD ws k 0)
-    (crossing ws (rowAt m (k / rowWords (m .width))) a b (k % rowWords (m .width)))
+abbrev pub shrunk : ℕ → DenseBinaryMatrix → DenseBinaryMatrix → Outcome DenseBinaryMatrix
+shrunk len m new = before (shrinkable len m new) (given new)
 
 -- what the answers stand for
 abbrev pub made : Made → Outcome DenseBinaryMatrix

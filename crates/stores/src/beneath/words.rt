@@ -1,10 +1,10 @@
 // Rows of bits in lent words: column c of the row that begins at word `at` is bit c mod 64 of word at + c / 64.
 ghost use mathlib.Core.Path.{_≡_};
-ghost use Prim.Native.Nat.{_+_, _/_, _%_, _≤_, _<_};
+ghost use Prim.Native.Nat.{_+_, _*_, _/_, _%_, _≤_, _<_};
 ghost use lib.ListN.{length, getD};
 ghost use Rattle.field.specs.Runs.{Written, added};
-ghost use Rattle.stores.specs.Bits.{bitAt, crossing, moved, withBit};
-ghost use Rattle.stores.specs.Rows.{Apart, Exchanged, row};
+ghost use Rattle.stores.specs.Bits.{bitAt, crossedFrom, crossing, withBit};
+ghost use Rattle.stores.specs.Rows.{Apart, Exchanged, packedTo, row};
 ghost use Rattle.stores.specs.Counting.{tally};
 
 pub fn get(ws: &[u64], at: usize, c: usize) -> u64
@@ -105,4 +105,34 @@ pub fn count(ws: &[u64], at: usize, start: usize, n: usize) -> usize
         k += 1;
     }
     ones
+}
+
+// Columns a and b change places in the rows from `start` on; a row has n words.
+pub fn cross_rows(ws: &mut [u64], n: usize, height: usize, a: usize, b: usize, start: usize)
+    requires { ⌜ (a / 64 < n) × (b / 64 < n) × (height * n ≤ length (now ws)) ⌝ }
+    ensures { λ _. ⌜ Written (crossedFrom (now (ws .entry)) n a b start) (now (ws .entry)) (now (ws .exit)) 0 (height * n) ⌝ }
+{
+    if height <= start {
+        return;
+    }
+    let mut r = start;
+    while r < height {
+        cross(ws, r * n, n, a, b);
+        r += 1;
+    }
+}
+
+// Rows of `old` words are packed to rows of their first n words.
+pub fn pack(ws: &mut [u64], rows: usize, n: usize, old: usize)
+    requires { ⌜ (n ≤ old) × (rows * old ≤ length (now ws)) ⌝ }
+    ensures { λ _. ⌜ Written (packedTo (now (ws .entry)) n old) (now (ws .entry)) (now (ws .exit)) 0 (rows * n) ⌝ }
+{
+    if n == old {
+        return;
+    }
+    let mut r = 0;
+    while r < rows {
+        move_down(ws, n, r * n, r * old);
+        r += 1;
+    }
 }

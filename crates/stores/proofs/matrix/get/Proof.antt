@@ -1,6 +1,6 @@
 -- `stores::matrix::get` meets its contract.
 -- Assumes nothing.
-use mathlib.Core.Path.{_≡_, refl, sym, ap, _∙_, subst}
+use mathlib.Core.Path.{sym, ap, _∙_}
 use Prim.Native.Nat.{ℕ, _*_}
 use native.Mathlib.Omega.{arith}
 use lib.ListN.{length}
@@ -8,7 +8,6 @@ use denote.Ref.{now}
 use Rattle.field.specs.Answer.{given}
 use Rattle.field.proofs.Refusals.{went-on, stopped, told}
 use Rattle.stores.specs.Bits.{bitAt}
-use Rattle.stores.proofs.Bits.{bit-lt}
 use Rattle.stores.proofs.Shapes.{Paired, paired-well, row-in, word-in}
 use borrow.Author.Needs.{needs}
 use Rattle.stores.proofs.matrix.get.Statement.{statement}

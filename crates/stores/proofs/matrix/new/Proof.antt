@@ -1,11 +1,9 @@
 -- `stores::matrix::new` meets its contract.
 -- Assumes nothing.
-use mathlib.Core.Path.{_≡_, refl, sym, ap, _∙_, subst}
-use Prim.Native.Nat.{ℕ, _*_}
+use mathlib.Core.Path.{refl, sym}
 use native.Mathlib.Omega.{arith}
 use lib.ListN.{length}
 use denote.Ref.{now}
-use Rattle.field.specs.Runs.{Written}
 use Rattle.field.proofs.Refusals.{went-on, stopped, told}
 use Rattle.stores.specs.Matrix.{shape}
 use Rattle.stores.proofs.Shapes.{Stored, stored-well}

@@ -1,6 +1,6 @@
 -- `stores::matrix::one_of` meets its contract.
 -- Assumes nothing.
-use borrow.Author.Tests.{lt-ltb, le-ltb, le-leb, lt-leb, eq-eqb, ne-eqb}
+use borrow.Author.Tests.{ne-eqb}
 use Rattle.stores.proofs.matrix.one_of.Statement.{statement}
 use Rattle.stores.proofs.matrix.one_of.Tie as tie
 

@@ -1,8 +1,8 @@
 -- `stores::matrix::pair` meets its contract.
 -- Assumes nothing.
 use mathlib.Core.Path.{sym, _∙_}
-use borrow.Author.Tests.{lt-ltb, le-ltb, le-leb, lt-leb, eq-eqb, ne-eqb}
-use Rattle.field.proofs.Refusals.{went-on, stopped, told}
+use borrow.Author.Tests.{le-leb, lt-leb}
+use Rattle.field.proofs.Refusals.{went-on, stopped}
 use borrow.Author.Needs.{needs}
 use Rattle.stores.proofs.matrix.pair.Statement.{statement}
 use Rattle.stores.proofs.matrix.pair.Tie as tie

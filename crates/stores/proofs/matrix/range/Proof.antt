@@ -1,6 +1,6 @@
 -- `stores::matrix::range` meets its contract.
 -- Assumes nothing.
-use borrow.Author.Tests.{lt-ltb, le-ltb, le-leb, lt-leb, eq-eqb, ne-eqb}
+use borrow.Author.Tests.{lt-ltb, le-ltb}
 use Rattle.stores.proofs.matrix.range.Statement.{statement}
 use Rattle.stores.proofs.matrix.range.Tie as tie
 
