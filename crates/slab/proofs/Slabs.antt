@@ -1,0 +1,103 @@
+-- Symbols of a slab: what a call that is not refused knows of its places.
+-- Assumes nothing.
+use mathlib.Core.Path.{_≡_, sym, ap, _∙_}
+use mathlib.Core.Bool.{false}
+use mathlib.Core.List.{List, []}
+use mathlib.Core.Logic.{_⊎_, inl, inr}
+use Prim.Native.Nat.{ℕ, _+_, _-_, _*_, _≤_, _<_}
+use native.Mathlib.Nat.{mul-le-mul-right}
+use native.Mathlib.Decide.{ℕ-discrete, decLt}
+use native.Mathlib.Omega.{arith}
+use borrow.Author.Tests.{ltb-false, leb-false, eqb-false, ne-eqb}
+use lib.Dec.{eqb, ltb, leb}
+use lib.ListN.{length}
+use Rattle.field.specs.Answer.{Outcome, given}
+use Rattle.field.specs.declared.refusal.Refusal.{Refusal}
+use Rattle.field.proofs.Answers.{given-only}
+use Rattle.slab.specs.Slab.{Apart, Reached, physical, strange, placed, paired, located, part, range, shown}
+use Rattle.slab.specs.declared.symbol_slab.Range.{Range}
+use Rattle.slab.specs.declared.symbol_slab.Range.the-variants as Ranges
+use Rattle.field.proofs.Refusals.{passed, passed-before}
+
+sound : (n count : ℕ) → strange n count ≡ false → (n ≡ 0 → ⊥) → n ≡ count
+sound n count e h = go (ℕ-discrete n count)
+  where
+    go : Dec (n ≡ count) → n ≡ count
+    go (yes q) = q
+    go (no d) =
+        let f = rw (ne-eqb n 0 h, ne-eqb n count d) at e in
+        let z : _≡_ {A = ℕ} 0 1 = cc in
+        absurd (omega arith)
+
+pub reached-by : (n count i : ℕ) → strange n count ≡ false → i < count → Reached n i
+reached-by n count i e h z = omega (arith, h, sound n count e z)
+
+pub record Placed (len count t : ℕ) (order : List ℕ) (i : ℕ) : Type 0 where
+  pub few : count ≤ 131070
+  pub room : count * t ≤ len
+  pub inside : i < count
+  pub reached : Reached (length order) i
+  pub there : physical order i < count
+
+pub placed-well : (len count t : ℕ) (order : List ℕ) (i : ℕ) → placed len count t order i ≡ given tt → Placed len count t order i
+placed-well len count t order i e =
+    let a = passed (ltb 131070 count) 2 _ tt e in
+    let b = passed (ltb len (count * t)) 8 _ tt (a .1) in
+    let c = passed (strange (length order) count) 8 _ tt (b .1) in
+    let d = passed (leb count i) 6 _ tt (c .1) in
+    let f = passed (leb count (physical order i)) 6 _ tt (d .1) in
+    let inside = leb-false count i (d .0) in
+    record {
+      few = ltb-false _ _ (a .0);
+      room = ltb-false _ _ (b .0);
+      inside = inside;
+      reached = reached-by (length order) count i (c .0) inside;
+      there = leb-false _ _ (f .0);
+    }
+
+pub record Paired (len count t : ℕ) (order : List ℕ) (dest src : ℕ) : Type 0 where
+  pub to : Placed len count t order dest
+  pub from : Placed len count t order src
+  pub differ : physical order dest ≡ physical order src → ⊥
+
+pub paired-well : (len count t : ℕ) (order : List ℕ) (dest src : ℕ) → paired len count t order dest src ≡ given tt → Paired len count t order dest src
+paired-well len count t order dest src e =
+    let a = passed-before (placed len count t order dest) _ tt e in
+    let b = passed-before (placed len count t order src) _ tt (a .2) in
+    let c = passed (eqb (physical order dest) (physical order src)) 7 _ tt (b .2) in
+    record {
+      to = placed-well len count t order dest (a .1);
+      from = placed-well len count t order src (b .1);
+      differ = eqb-false _ _ (c .0);
+    }
+
+-- symbol p of n ends within n symbols
+pub inside : {p n : ℕ} (t : ℕ) → p < n → p * t + t ≤ n * t
+inside {p} {n} t h =
+    let l : (p + 1) * t ≤ n * t = mul-le-mul-right t (omega arith) in
+    omega arith
+
+pub ends : {len count t : ℕ} {order : List ℕ} {i : ℕ} → Placed len count t order i → physical order i * t + t ≤ len
+ends {len} {count} {t} p = omega (arith, inside t (p .there), p .room)
+
+pub apart : {len count t : ℕ} {order : List ℕ} {dest src : ℕ} → Paired len count t order dest src → Apart len t (physical order dest * t) (physical order src * t)
+apart {len} {count} {t} {order} {dest} {src} p = record { to-in = ends (p .to); from-in = ends (p .from); apart = go (decLt (physical order dest) (physical order src)) }
+  where
+    go : Dec (physical order dest < physical order src) → (physical order dest * t + t ≤ physical order src * t) ⊎ (physical order src * t + t ≤ physical order dest * t)
+    go (yes l) = inl (inside t l)
+    go (no l) = inr (inside t (omega (arith, p .differ)))
+
+-- the range that is told lies in the store, and holds the symbol
+pub located-well : (len count t : ℕ) (order : List ℕ) (i begin end : ℕ) → located len count t order i ≡ given (begin, end) → (begin ≤ end) × (end ≤ len)
+located-well len count t order i begin end e =
+    let a = passed-before (placed len count t order i) _ (begin, end) e in
+    let w = placed-well len count t order i (a .1) in
+    let q = given-only (physical order i * t, physical order i * t + t) (begin, end) (a .2) in
+    omega (arith, ends w, ap (λ (r : ℕ × ℕ). r .0) q, ap (λ (r : ℕ × ℕ). r .1) q)
+
+module _ (xs : List ℕ) {o : Outcome (ℕ × ℕ)} (r : Range) (q : range r ≡ o) where
+  pub shown-bytes : (begin end : ℕ) → r ≡ Ranges.Bytes begin end → part xs begin (end - begin) ≡ shown o xs
+  shown-bytes begin end e = sym (ap (λ (p : Outcome (ℕ × ℕ)). shown p xs) (sym q) ∙ ap (λ (y : Range). shown (range y) xs) e)
+
+  pub shown-none : (why : Refusal) → r ≡ Ranges.Refused why → [] ≡ shown o xs
+  shown-none why e = sym (ap (λ (p : Outcome (ℕ × ℕ)). shown p xs) (sym q) ∙ ap (λ (y : Range). shown (range y) xs) e)

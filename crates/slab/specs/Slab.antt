@@ -1,0 +1,87 @@
+-- Symbols in lent bytes (document 01, 'Matrices and slab'; symbol_slab.rs): where symbol i lies, and which calls are refused.
+-- Assumes nothing.
+use mathlib.Core.Path.{_≡_}
+use mathlib.Core.Bool.{Bool, not}
+use mathlib.Core.List.{List, []}
+use mathlib.Core.Logic.{_⊎_}
+use Prim.Native.Nat.{ℕ, _+_, _-_, _*_, _≤_, _<_}
+use lib.Dec.{eqb, ltb, leb}
+use lib.ListN.{length, getD, take, drop}
+use Rattle.field.specs.Answer.{Outcome, given, refused, unless, numberOf, before}
+use Rattle.field.specs.Choice.{pick, both}
+use Rattle.slab.specs.declared.symbol_slab.SymbolSlab.{SymbolSlab}
+use Rattle.slab.specs.declared.symbol_slab.Made.{Made}
+use Rattle.slab.specs.declared.symbol_slab.Made.the-variants as Mades
+use Rattle.slab.specs.declared.symbol_slab.Range.{Range}
+use Rattle.slab.specs.declared.symbol_slab.Range.the-variants as Ranges
+
+-- n bytes from `from` on
+abbrev pub part : List ℕ → ℕ → ℕ → List ℕ
+part xs from n = take n (drop from xs)
+
+-- both symbols of t bytes lie inside, and do not meet
+pub record Apart (len t to from : ℕ) : Type 0 where
+  pub to-in : to + t ≤ len
+  pub from-in : from + t ≤ len
+  pub apart : (to + t ≤ from) ⊎ (from + t ≤ to)
+
+-- where an order puts symbol i; an order of length 0 is none
+abbrev pub physical : List ℕ → ℕ → ℕ
+physical order i = pick (eqb (length order) 0) i (getD order i 0)
+
+-- where its bytes begin, and its bytes
+abbrev pub start : SymbolSlab → List ℕ → ℕ → ℕ
+start slab order i = physical order i * slab .size
+
+abbrev pub symbol : SymbolSlab → List ℕ → ℕ → List ℕ → List ℕ
+symbol slab order i xs = part xs (start slab order i) (slab .size)
+
+-- a length of an order that is neither 0 nor the count
+abbrev pub strange : ℕ → ℕ → Bool
+strange n count = both (not (eqb n 0)) (not (eqb n count))
+
+-- an order of n entries has one for i, if it has any
+abbrev pub Reached : ℕ → ℕ → Type 0
+Reached n i = (n ≡ 0 → ⊥) → i < n
+
+-- the refusals of a call on symbol i: 2 for the count, 8 for the store and the order, 6 for i and for what the order says of it
+abbrev pub placed : ℕ → ℕ → ℕ → List ℕ → ℕ → Outcome (Unit {0})
+placed len count t order i =
+    unless (ltb 131070 count) 2
+    (unless (ltb len (count * t)) 8
+    (unless (strange (length order) count) 8
+    (unless (leb count i) 6
+    (unless (leb count (physical order i)) 6
+    (given tt)))))
+
+-- those of a call on two symbols: the same for each, and 7 if they are one
+abbrev pub paired : ℕ → ℕ → ℕ → List ℕ → ℕ → ℕ → Outcome (Unit {0})
+paired len count t order dest src =
+    before (placed len count t order dest)
+    (before (placed len count t order src)
+    (unless (eqb (physical order dest) (physical order src)) 7
+    (given tt)))
+
+-- where symbol i begins and ends
+abbrev pub located : ℕ → ℕ → ℕ → List ℕ → ℕ → Outcome (ℕ × ℕ)
+located len count t order i = before (placed len count t order i) (given (physical order i * t, physical order i * t + t))
+
+abbrev pub range : Range → Outcome (ℕ × ℕ)
+range (Ranges.Bytes start end) = given (start, end)
+range (Ranges.Refused why) = refused (numberOf why)
+
+-- the bytes there; none where the call is refused
+abbrev pub shown : Outcome (ℕ × ℕ) → List ℕ → List ℕ
+shown (given r) xs = part xs (r .0) (r .1 - r .0)
+shown (refused n) xs = []
+
+-- a slab of `count` symbols of t bytes
+abbrev pub zeroed : ℕ → ℕ → ℕ → Outcome SymbolSlab
+zeroed len count t =
+    unless (ltb 131070 count) 2
+    (unless (ltb len (count * t)) 8
+    (given record { count = count; size = t }))
+
+abbrev pub made : Made → Outcome SymbolSlab
+made (Mades.Slab slab) = given slab
+made (Mades.Refused why) = refused (numberOf why)
