@@ -1,17 +1,15 @@
 -- How a call of the C interface comes to its answer, and that two results which its contract allows are the same: the answer and the lent memory.
 -- Assumes nothing.
 use mathlib.Core.Path.{_≡_, refl, sym, _∙_, subst}
-use mathlib.Core.Bool.{Bool, true, false}
 use mathlib.Core.List.{List}
 use Prim.Native.Nat.{ℕ, _<_, _≤_}
 use borrow.Author.Tests.{lt-ltb, le-ltb}
 use lib.ListN.{length}
-use Rattle.field.specs.Answer.{Outcome, given, refused}
+use Rattle.field.specs.Answer.{Outcome, Left, done, given, refused}
 use Rattle.field.proofs.Writing.{written-once}
-use Rattle.headers.specs.Headers.{Stores, writingOutcome}
-use Rattle.headers.specs.declared.writing.Writing.{Writing}
-use Rattle.headers.specs.declared.writing.Writing.the-variants as Writings
-use Rattle.exports.specs.Call.{code, Kept, Called, roomed, thenRoomed, listed, Ran}
+use Rattle.field.proofs.Refusals.{left-once}
+use Rattle.field.specs.declared.refusal.Answer as Plain
+use Rattle.exports.specs.Call.{code, Kept, Called, roomed, thenRoomed, listed, Did}
 
 kept-once : (o : Outcome (List ℕ)) (out m n : List ℕ) → Kept o out m → Kept o out n → m ≡ n
 kept-once (given vs) out m n u w = written-once u w
@@ -20,9 +18,10 @@ kept-once (refused k) out m n u w = u ∙ sym w
 pub called-once : {o : Outcome (List ℕ)} {out m n : List ℕ} {q r : ℕ} → Called o out m q → Called o out n r → (q ≡ r) × (m ≡ n)
 called-once {o} {out} {m} {n} u w = (u .answer ∙ sym (w .answer), kept-once o out m n (u .memory) (w .memory))
 
-pub ran-once : (t : Bool) (f : ℕ → ℕ) (xs ys zs : List ℕ) (q r : ℕ) → Ran t f xs ys q → Ran t f xs zs r → (q ≡ r) × (ys ≡ zs)
-ran-once true f xs ys zs q r u w = (u .0 ∙ sym (w .0), written-once (u .1) (w .1))
-ran-once false f xs ys zs q r u w = (u .0 ∙ sym (w .0), u .1 ∙ sym (w .1))
+-- where a done call's memory is settled, so is every call's
+pub did-once : (P : List ℕ → Type 0) {o : Outcome (Unit {0})} {xs ys zs : List ℕ} {q r : ℕ} → (P ys → P zs → ys ≡ zs) → Did o xs ys (P ys) q → Did o xs zs (P zs) r
+    → (q ≡ r) × (ys ≡ zs)
+did-once P {o} {xs} {ys} {zs} once u w = (u .answer ∙ sym (w .answer), left-once P o xs ys zs once (u .memory) (w .memory))
 
 pub called-short : (o : Outcome (List ℕ)) (out : List ℕ) (n : ℕ) → length out < n → Called (roomed out n o) out out 8
 called-short o out n h = rw (lt-ltb (length out) n h) (record { answer = refl; memory = refl })
@@ -50,11 +49,6 @@ module _ {A : Type 0} (f : A → List ℕ) {o : Outcome A} {out now : List ℕ} 
   pub called-late : {n : ℕ} → refused n ≡ o → r ≡ n → now ≡ out → Called (listed f o) out now r
   called-late e q z = called-as (listed f) e (record { answer = q; memory = z })
 
--- a writer of the layer below told its answer w, and left the store as its contract says
-pub called-stored : {o : Outcome (Unit {0})} {bs xs ys : List ℕ} {w : Writing} {r : ℕ} → Stores o bs xs ys w → r ≡ code (writingOutcome w)
-    → Called (listed (λ (_ : Unit {0}). bs) o) xs ys r
-called-stored {o} {bs} {xs} {ys} {w} {r} s q = subst (λ (p : Outcome (Unit {0})). Called (listed (λ (_ : Unit {0}). bs) p) xs ys r) (s .answer) (go w s q)
-  where
-    go : (w : Writing) → Stores o bs xs ys w → r ≡ code (writingOutcome w) → Called (listed (λ (_ : Unit {0}). bs) (writingOutcome w)) xs ys r
-    go Writings.Done s q = record { answer = q; memory = s .memory }
-    go (Writings.Refused why) s q = record { answer = q; memory = s .memory }
+-- a call of the layer below answered a, which was told, and left the store as its contract says
+pub did-as : {o : Outcome (Unit {0})} {xs ys : List ℕ} {P : Type 0} (a : Plain.Answer) {r : ℕ} → done a ≡ o → Left (done a) xs ys P → r ≡ code (done a) → Did o xs ys P r
+did-as {o} {xs} {ys} {P} a {r} e m q = subst (λ (p : Outcome (Unit {0})). Did p xs ys P r) e (record { answer = q; memory = m })

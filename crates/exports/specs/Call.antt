@@ -1,12 +1,12 @@
 -- The C interface: what a call returns, and what it leaves in the slice that it was lent for its values.
 -- Assumes nothing.
 use mathlib.Core.Path.{_≡_}
-use mathlib.Core.Bool.{Bool, true, false}
+use mathlib.Core.Bool.{not}
 use mathlib.Core.List.{List, [], _∷_}
 use Prim.Native.Nat.{ℕ}
-use lib.Dec.{ltb}
+use lib.Dec.{ltb, eqb}
 use lib.ListN.{length, getD}
-use Rattle.field.specs.Answer.{Outcome, given, refused, unless}
+use Rattle.field.specs.Answer.{Outcome, Left, given, refused, unless}
 use Rattle.field.specs.Runs.{Written}
 
 -- 0 where the call was done, else the refusal's number
@@ -41,7 +41,11 @@ listed f (refused n) = refused n
 abbrev pub one : ℕ → List ℕ
 one x = x ∷ []
 
--- a call on a run xs, which is now ys: done, or refused for its length
-abbrev pub Ran : Bool → (ℕ → ℕ) → List ℕ → List ℕ → ℕ → Type 0
-Ran true f xs ys r = (r ≡ 0) × Written f xs ys 0 (length xs)
-Ran false f xs ys r = (r ≡ 8) × (ys ≡ xs)
+-- a call with nothing to tell answered r and made ys of its store xs: P holds of ys where it was done
+pub record Did (o : Outcome (Unit {0})) (xs ys : List ℕ) (P : Type 0) (r : ℕ) : Type 0 where
+  pub answer : r ≡ code o
+  pub memory : Left o xs ys P
+
+-- two runs have to be of one length
+abbrev pub alike : List ℕ → List ℕ → Outcome (Unit {0})
+alike xs ys = unless (not (eqb (length xs) (length ys))) 8 (given tt)

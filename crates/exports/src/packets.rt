@@ -2,11 +2,13 @@
 ghost use mathlib.Core.Path.{_≡_};
 ghost use mathlib.Core.List.{_++_};
 ghost use lib.ListN.{length};
-ghost use Rattle.headers.specs.Headers.{checked, checkOutcome, idBytes, infoBytes, readId, readInfo, readPacket, roomForId, roomForInfo, roomForPacket, writingOutcome};
+ghost use Rattle.headers.specs.Bytes.{Laid};
+ghost use Rattle.headers.specs.Headers.{checked, idBytes, infoBytes, readId, readInfo, readPacket, roomForId, roomForInfo, roomForPacket};
 ghost use Rattle.headers.specs.Partition.{partitioned};
-ghost use Rattle.exports.specs.Call.{Called, code, listed, thenRoomed};
+ghost use Rattle.exports.specs.Call.{Called, Did, code, listed, thenRoomed};
 ghost use Rattle.exports.specs.Numbers.{id, idNumbers, info, infoNumbers, packetNumbers};
 use crate::values::hand;
+use crate::values::told;
 use field::refusal::number;
 use headers::packet;
 use headers::partition;
@@ -14,17 +16,6 @@ use headers::payload_id;
 use headers::payload_id::PayloadId;
 use headers::transmission;
 use headers::transmission::ObjectTransmissionInformation;
-use headers::transmission::Verdict;
-use headers::writing::Writing;
-
-fn told(w: Writing) -> u32
-    ensures { λ r. ⌜ r ≡ code (writingOutcome w) ⌝ }
-{
-    match w {
-        Writing::Done => 0,
-        Writing::Refused(why) => number(why),
-    }
-}
 
 // Values: the block's number, the ESI.
 #[no_mangle]
@@ -42,7 +33,7 @@ pub extern "C" fn spoonripple_payload_id_read(bytes: &[u8], out: &mut [u64]) -> 
 
 #[no_mangle]
 pub extern "C" fn spoonripple_payload_id_write(sbn: u8, esi: u32, store: &mut [u8]) -> u32
-    ensures { λ r. ⌜ Called (listed (λ _. idBytes (id sbn esi)) (roomForId (id sbn esi) (length (now (store .entry))))) (now (store .entry)) (now (store .exit)) r ⌝ }
+    ensures { λ r. ⌜ Did (roomForId (id sbn esi) (length (now (store .entry)))) (now (store .entry)) (now (store .exit)) (Laid (idBytes (id sbn esi)) (now (store .entry)) (now (store .exit)) 0) r ⌝ }
 {
     let i = PayloadId {
         source_block_number: sbn,
@@ -80,7 +71,7 @@ pub extern "C" fn spoonripple_transmission_write(
     al: u8,
     store: &mut [u8],
 ) -> u32
-    ensures { λ r. ⌜ Called (listed (λ _. infoBytes (info f t z n al)) (roomForInfo (info f t z n al) (length (now (store .entry))))) (now (store .entry)) (now (store .exit)) r ⌝ }
+    ensures { λ r. ⌜ Did (roomForInfo (info f t z n al) (length (now (store .entry)))) (now (store .entry)) (now (store .exit)) (Laid (infoBytes (info f t z n al)) (now (store .entry)) (now (store .exit)) 0) r ⌝ }
 {
     let o = ObjectTransmissionInformation {
         transfer_length: f,
@@ -103,10 +94,7 @@ pub extern "C" fn spoonripple_transmission_check(f: u64, t: u16, z: u8, n: u16, 
         num_sub_blocks: n,
         symbol_alignment: al,
     };
-    match transmission::check(o) {
-        Verdict::Accepted => 0,
-        Verdict::Refused(why) => number(why),
-    }
+    told(transmission::check(o))
 }
 
 // Values: the block's number, the ESI, where the symbols' bytes begin in the packet, and how many they are.
@@ -134,7 +122,7 @@ pub extern "C" fn spoonripple_packet_read(bytes: &[u8], out: &mut [u64]) -> u32
 
 #[no_mangle]
 pub extern "C" fn spoonripple_packet_write(sbn: u8, esi: u32, bytes: &[u8], store: &mut [u8]) -> u32
-    ensures { λ r. ⌜ Called (listed (λ _. idBytes (id sbn esi) ++ now (bytes .entry)) (roomForPacket (id sbn esi) (length (now (bytes .entry))) (length (now (store .entry))))) (now (store .entry)) (now (store .exit)) r ⌝ }
+    ensures { λ r. ⌜ Did (roomForPacket (id sbn esi) (length (now (bytes .entry))) (length (now (store .entry)))) (now (store .entry)) (now (store .exit)) (Laid (idBytes (id sbn esi) ++ now (bytes .entry)) (now (store .entry)) (now (store .exit)) 0) r ⌝ }
 {
     let i = PayloadId {
         source_block_number: sbn,

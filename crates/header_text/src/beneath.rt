@@ -2,9 +2,9 @@
 ghost use mathlib.Core.Path.{_≡_};
 ghost use Prim.Native.Nat.{_+_, _≤_, min};
 ghost use lib.ListN.{length};
-ghost use Rattle.field.specs.Answer.{given, numberOf};
+ghost use Rattle.field.specs.Answer.{done, given, numberOf};
 ghost use Rattle.io.specs.Counts.{Counts};
-ghost use Rattle.headers.specs.Headers.{checkOutcome, readId};
+ghost use Rattle.headers.specs.Headers.{readId};
 ghost use Rattle.header_text.specs.Text.{Lined, idLines, infoLines, line, refusedLine, textOf, told, verdictLine};
 use field::refusal;
 use field::refusal::Refusal;
@@ -13,7 +13,6 @@ use headers::payload_id;
 use headers::payload_id::PayloadId;
 use headers::transmission;
 use headers::transmission::ObjectTransmissionInformation;
-use headers::transmission::Verdict;
 
 pub fn text(input: &[u8], out: &mut [u8]) -> usize
     requires { ⌜ 200 ≤ length (now out) ⌝ }
@@ -74,16 +73,16 @@ fn id_lines(out: &mut [u8], at: usize, id: PayloadId) -> usize
     number_line(out, sbn, b"ESI ", id.encoding_symbol_id as u64)
 }
 
-fn verdict_line(out: &mut [u8], at: usize, verdict: Verdict) -> usize
+fn verdict_line(out: &mut [u8], at: usize, verdict: refusal::Answer) -> usize
     requires { ⌜ at + 29 ≤ length (now out) ⌝ }
-    ensures { λ r. ⌜ Lined (verdictLine (checkOutcome verdict)) 29 (now (out .entry)) (now (out .exit)) at r ⌝ }
+    ensures { λ r. ⌜ Lined (verdictLine (done verdict)) 29 (now (out .entry)) (now (out .exit)) at r ⌝ }
 {
     match verdict {
-        Verdict::Accepted => {
+        refusal::Answer::Done => {
             big_endian::copy(out, at, b"accepted\n");
             at + 9
         }
-        Verdict::Refused(why) => refusal_line(out, at, why),
+        refusal::Answer::Refused(why) => refusal_line(out, at, why),
     }
 }
 

@@ -10,12 +10,13 @@ use lib.ListN.{length}
 use borrow.Author.Tests.{not-false}
 use Rattle.field.specs.Answer.{given, refused, unless}
 use Rattle.field.proofs.Answers.{given-only, refused-only, given-not-refused}
+use Rattle.field.proofs.Refusals.{passed}
 use Rattle.headers.specs.Prime.{Prime, FirstFrom, clear, prime}
 use Rattle.headers.specs.Row.{Obeys, obeys, between, sixteen, bands, lOf, pOf, bOf, p1Of, sizesOf, checked}
 use Rattle.headers.specs.Tuples.{Ready}
 use Rattle.headers.specs.declared.row.Row.{Row}
 use Rattle.headers.specs.declared.row.Sizes.{Sizes}
-use Rattle.headers.proofs.Tests.{Tells, tells-both, tells-as, tells-le, tells-lt, tells-eq, is-true, is-false, tells-true, passed, given-past}
+use Rattle.headers.proofs.Tests.{Tells, tells-both, tells-as, tells-le, tells-lt, tells-eq, is-true, is-false, tells-true, is-test}
 use Rattle.headers.proofs.Primes.{trial, clear-tells, prime-tells, first-from, first-high}
 
 within : (low n high : ℕ) → Tells (between low n high) ((low ≤ n) × (n ≤ high))
@@ -69,7 +70,7 @@ broken {r} n = is-false (obeys-tells r) n
 -- the last P1 there is
 highest : Prime 56659
 unfolding clear
-highest = trial 56659 239 (omega arith) (omega arith) (clear-tells 56659 237 .passes (passed (clear 56659 237) tt))
+highest = trial 56659 239 (omega arith) (omega arith) (clear-tells 56659 237 .passes (is-test (clear 56659 237) tt))
 
 -- laws of a row that obeys its rules
 module _ {r : Row} (o : Obeys r) where
@@ -129,8 +130,8 @@ module _ {r : Row} (o : Obeys r) where
 module _ (r : Row) where
   pub accepted : (z : Sizes) → given z ≡ checked r → (Obeys r) × (z ≡ sizesOf r)
   accepted z e =
-      let p = given-past (not (obeys r)) 4 (given (sizesOf r)) z e in
-      (obeys-tells r .passes (not-false (obeys r) (p .0)), given-only z (sizesOf r) (p .1))
+      let p = passed (not (obeys r)) 4 (given (sizesOf r)) z (sym e) in
+      (obeys-tells r .passes (not-false (obeys r) (p .0)), given-only z (sizesOf r) (sym (p .1)))
 
   pub rejected : (n : ℕ) → refused n ≡ checked r → (n ≡ 4) × (Obeys r → ⊥)
   rejected n = go (obeys r) (obeys-tells r)

@@ -1,50 +1,30 @@
 -- Each contract settles its answer, and what stands in the store afterwards.
 -- Assumes nothing.
-use mathlib.Core.Path.{_≡_, refl, sym, ap, _∙_}
-use mathlib.Core.Bool.{Bool, true, false}
+use mathlib.Core.Path.{_≡_, sym, ap}
 use mathlib.Core.List.{List, [], _∷_}
 use Prim.Native.Nat.{ℕ}
-use lib.ListN.{getD}
-use Rattle.field.specs.Answer.{Outcome, given, numberOf, unless}
+use lib.ListN.{length, getD}
+use Rattle.field.specs.Answer.{Outcome, numberOf}
 use Rattle.field.proofs.Answers.{given-only, refused-only, given-not-refused, number-only}
-use Rattle.field.proofs.Writing.{written-once}
-use Rattle.headers.specs.Headers.{Stores, writingOutcome, idOutcome, infoOutcome, checkOutcome, headOutcome, packetOutcome}
+use Rattle.field.proofs.Refusals.{answer-once, memory-once}
+use Rattle.headers.specs.Headers.{Stores, idOutcome, infoOutcome, headOutcome, packetOutcome}
 use Rattle.headers.specs.Partition.{partitionOutcome}
-use Rattle.headers.specs.declared.writing.Writing.{Writing}
-use Rattle.headers.specs.declared.writing.Writing.the-variants as Writings
+use Rattle.field.specs.declared.refusal.Answer as Plain
 use Rattle.headers.specs.declared.payload_id.PayloadId.{PayloadId}
 use Rattle.headers.specs.declared.payload_id.Answer as Ids
 use Rattle.headers.specs.declared.transmission.ObjectTransmissionInformation.{ObjectTransmissionInformation}
 use Rattle.headers.specs.declared.transmission.Answer as Infos
-use Rattle.headers.specs.declared.transmission.Verdict as Verdicts
 use Rattle.headers.specs.declared.packet.Head as Heads
 use Rattle.headers.specs.declared.packet.Answer as Packets
 use Rattle.headers.specs.declared.partition.Answer as Parts
 
--- a value was given, so the test did not refuse
-pub passed : {A : Type 0} (b : Bool) (n : ℕ) (o : Outcome A) (a : A) → given a ≡ unless b n o → (b ≡ false) × (given a ≡ o)
-passed true n o a e = absurd (given-not-refused a n e)
-passed false n o a e = (refl, e)
-
-pub writing-only : (p q : Writing) → writingOutcome p ≡ writingOutcome q → p ≡ q
-writing-only Writings.Done Writings.Done e = refl
-writing-only Writings.Done (Writings.Refused w) e = absurd (given-not-refused tt (numberOf w) e)
-writing-only (Writings.Refused v) Writings.Done e = absurd (given-not-refused tt (numberOf v) (sym e))
-writing-only (Writings.Refused v) (Writings.Refused w) e =
-    ap Writings.Refused (number-only v w (refused-only {A = Unit {0}} (numberOf v) (numberOf w) e))
-
 -- a writer's answer, and every byte of the store
 module _ {o : Outcome (Unit {0})} {bs xs ys zs : List ℕ} where
-  left-only : (p q : Writing) → p ≡ q → Stores o bs xs ys p → Stores o bs xs zs q → ys ≡ zs
-  left-only Writings.Done Writings.Done e u v = written-once (u .memory) (v .memory)
-  left-only Writings.Done (Writings.Refused w) e u v = absurd (given-not-refused tt (numberOf w) (ap writingOutcome e))
-  left-only (Writings.Refused v) Writings.Done e u w = absurd (given-not-refused tt (numberOf v) (sym (ap writingOutcome e)))
-  left-only (Writings.Refused v) (Writings.Refused w) e s t = s .memory ∙ sym (t .memory)
-
-  pub stores-only : {p q : Writing} → Stores o bs xs ys p → Stores o bs xs zs q → (p ≡ q) × (ys ≡ zs)
-  stores-only {p} {q} u v =
-      let e : p ≡ q = writing-only p q (u .answer ∙ sym (v .answer)) in
-      (e, left-only p q e u v)
+  pub stores-only : {p q : Plain.Answer} → Stores o bs xs ys p → Stores o bs xs zs q → (p ≡ q) × (ys ≡ zs)
+  stores-only {p} {q} u v = (
+    answer-once (λ k. getD bs k 0) 0 (length bs) xs ys zs p q (u .answer) (v .answer),
+    memory-once (λ k. getD bs k 0) 0 (length bs) xs ys zs p q (u .answer) (v .answer) (u .memory) (v .memory),
+  )
 
 pub id-only : (p q : Ids.Answer) → idOutcome p ≡ idOutcome q → p ≡ q
 id-only (Ids.the-variants.Id a) (Ids.the-variants.Id b) e = ap Ids.the-variants.Id (given-only a b e)
@@ -59,13 +39,6 @@ info-only (Infos.the-variants.Information a) (Infos.the-variants.Refused w) e = 
 info-only (Infos.the-variants.Refused v) (Infos.the-variants.Information b) e = absurd (given-not-refused b (numberOf v) (sym e))
 info-only (Infos.the-variants.Refused v) (Infos.the-variants.Refused w) e =
     ap Infos.the-variants.Refused (number-only v w (refused-only {A = ObjectTransmissionInformation} (numberOf v) (numberOf w) e))
-
-pub check-only : (p q : Verdicts.Verdict) → checkOutcome p ≡ checkOutcome q → p ≡ q
-check-only Verdicts.the-variants.Accepted Verdicts.the-variants.Accepted e = refl
-check-only Verdicts.the-variants.Accepted (Verdicts.the-variants.Refused w) e = absurd (given-not-refused tt (numberOf w) e)
-check-only (Verdicts.the-variants.Refused v) Verdicts.the-variants.Accepted e = absurd (given-not-refused tt (numberOf v) (sym e))
-check-only (Verdicts.the-variants.Refused v) (Verdicts.the-variants.Refused w) e =
-    ap Verdicts.the-variants.Refused (number-only v w (refused-only {A = Unit {0}} (numberOf v) (numberOf w) e))
 
 pub head-only : (p q : Heads.Head) → headOutcome p ≡ headOutcome q → p ≡ q
 head-only (Heads.the-variants.Id a c) (Heads.the-variants.Id b d) e =

@@ -11,8 +11,8 @@ use lib.Dec.{eqb}
 use lib.ListN.{getD}
 use Rattle.field.specs.Answer.{given}
 use Rattle.field.proofs.Answers.{given-only}
+use Rattle.field.proofs.Refusals.{passed}
 use Rattle.headers.specs.Partition.{parts, partitioned}
-use Rattle.headers.proofs.Answers.{passed}
 use Rattle.headers.specs.Quotient.{ceil}
 use Rattle.headers.proofs.Quotient.{ceil-exact, ceil-more}
 
@@ -51,7 +51,7 @@ module _ (i j : ℕ) (h : 0 < j) where
 -- so of whatever the contract lets `partition` give
 pub partition-parts : (i j il is jl js : ℕ) → partitioned i j ≡ given (il ∷ is ∷ jl ∷ js ∷ []) → Partitions i j il is jl js
 partition-parts i j il is jl js e =
-    let g = passed (eqb j 0) 2 (given (parts i j)) (il ∷ is ∷ jl ∷ js ∷ []) (sym e) in
-    let p : parts i j ≡ il ∷ is ∷ jl ∷ js ∷ [] = sym (given-only (il ∷ is ∷ jl ∷ js ∷ []) (parts i j) (g .1)) in
+    let g = passed (eqb j 0) 2 (given (parts i j)) (il ∷ is ∷ jl ∷ js ∷ []) e in
+    let p : parts i j ≡ il ∷ is ∷ jl ∷ js ∷ [] = given-only (parts i j) (il ∷ is ∷ jl ∷ js ∷ []) (g .1) in
     let d : j ≡ 0 → ⊥ = eqb-false j 0 (g .0) in
     subst (λ (x : List ℕ). Partitions i j (getD x 0 0) (getD x 1 0) (getD x 2 0) (getD x 3 0)) p (partitions i j (omega (arith, d)))

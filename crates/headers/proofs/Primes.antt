@@ -9,7 +9,7 @@ use native.Mathlib.Omega.{arith}
 use lib.Dec.{eqb}
 use Rattle.field.specs.Choice.{pick}
 use Rattle.headers.specs.Prime.{Prime, FirstFrom, clear, prime, seek, firstPrime}
-use Rattle.headers.proofs.Tests.{Tells, tells-both, tells-not, tells-as, tells-le, tells-eq, passed}
+use Rattle.headers.proofs.Tests.{Tells, tells-both, tells-not, tells-as, tells-le, tells-eq, is-test}
 
 -- no number from 2 up to below d divides n
 abbrev pub Clear : ℕ → ℕ → Type 0
@@ -66,7 +66,7 @@ prime-tells n =
 
 pub last : Prime 65537
 unfolding clear
-last = trial 65537 257 (omega arith) (omega arith) (clear-tells 65537 255 .passes (passed (clear 65537 255) tt))
+last = trial 65537 257 (omega arith) (omega arith) (clear-tells 65537 255 .passes (is-test (clear 65537 255) tt))
 
 pub below-last : {n : ℕ} → (Prime n → ⊥) → n ≤ 65537 → n < 65537
 below-last {n} h l = go (decLt n 65537)

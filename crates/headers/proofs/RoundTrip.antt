@@ -13,11 +13,11 @@ use Rattle.field.specs.Answer.{given, unless}
 use Rattle.field.proofs.Answers.{given-only}
 use Rattle.headers.specs.Bytes.{number}
 use Rattle.headers.specs.Headers.{Stores, room, idAt, idBytes, readId, roomForId, infoAt, infoBytes, readInfo, roomForInfo, readPacket, roomForPacket}
-use Rattle.headers.specs.declared.writing.Writing.{Writing}
-use Rattle.headers.specs.declared.writing.Writing.the-variants.{Done}
+use Rattle.field.specs.declared.refusal.Answer as Plain
+use Rattle.field.specs.declared.refusal.Answer.the-variants.{Done}
 use Rattle.headers.specs.declared.payload_id.PayloadId.{PayloadId}
 use Rattle.headers.specs.declared.transmission.ObjectTransmissionInformation.{ObjectTransmissionInformation}
-use Rattle.headers.proofs.Answers.{passed, writing-only}
+use Rattle.field.proofs.Refusals.{passed, done-only}
 use Rattle.headers.proofs.Bytes.{Bytes, inBytes-number, inBytes-next, number-lt, laid-front}
 use Rattle.headers.proofs.Headers.{id-is, info-is}
 
@@ -25,16 +25,16 @@ use Rattle.headers.proofs.Headers.{id-is, info-is}
 module _ (x most n need : ℕ) (bs : List ℕ) {xs ys : List ℕ} (size : length bs ≡ need) where
   stored : Stores (room x most n need (length xs)) bs xs ys Done → (x ≤ most) × (take need ys ≡ bs)
   stored w =
-      let a = passed (ltb most x) n (unless (ltb (length xs) need) 8 (given tt)) tt (w .answer) in
+      let a = passed (ltb most x) n (unless (ltb (length xs) need) 8 (given tt)) tt (sym (w .answer)) in
       let b = passed (ltb (length xs) need) 8 (given tt) tt (a .1) in
       let l : need ≤ length xs = ltb-false (length xs) need (b .0) in
       (ltb-false most x (a .0), ap (λ (k : ℕ). take k ys) (sym size) ∙ laid-front bs (w .memory) (omega arith))
 
   -- and in its bounds it is done
-  stored-done : {r : Writing} → x ≤ most → need ≤ length xs → Stores (room x most n need (length xs)) bs xs ys r → (r ≡ Done) × (take need ys ≡ bs)
+  stored-done : {r : Plain.Answer} → x ≤ most → need ≤ length xs → Stores (room x most n need (length xs)) bs xs ys r → (r ≡ Done) × (take need ys ≡ bs)
   stored-done {r} h l w =
-      let e : r ≡ Done = writing-only r Done (w .answer ∙ rw (le-ltb most x h, le-ltb (length xs) need l)) in
-      (e, stored (subst (λ (q : Writing). Stores (room x most n need (length xs)) bs xs ys q) e w) .1)
+      let e : r ≡ Done = done-only r Done (w .answer ∙ rw (le-ltb most x h, le-ltb (length xs) need l)) in
+      (e, stored (subst (λ (q : Plain.Answer). Stores (room x most n need (length xs)) bs xs ys q) e w) .1)
 
 -- Payload ids
 
@@ -50,13 +50,13 @@ id-read-back i s w =
     let u = stored (i .«encoding_symbol_id») 16777215 9 4 (idBytes i) refl w in
     rw (u .1) (ap given (id-number i [] s (omega arith)))
 
-pub id-write-back : (s : List ℕ) (i : PayloadId) {xs ys : List ℕ} {r : Writing} → Bytes s → readId s ≡ given i → 4 ≤ length xs
+pub id-write-back : (s : List ℕ) (i : PayloadId) {xs ys : List ℕ} {r : Plain.Answer} → Bytes s → readId s ≡ given i → 4 ≤ length xs
     → Stores (roomForId i (length xs)) (idBytes i) xs ys r
     → (r ≡ Done) × (take 4 ys ≡ s)
 id-write-back s i b e l w =
-    let g = passed (not (eqb (length s) 4)) 8 (given (idAt s)) i (sym e) in
+    let g = passed (not (eqb (length s) 4)) 8 (given (idAt s)) i e in
     let n : length s ≡ 4 = eqb-true (length s) 4 (not-false (eqb (length s) 4) (g .0)) in
-    let q : i ≡ idAt s = given-only i (idAt s) (g .1) in
+    let q : i ≡ idAt s = given-only i (idAt s) (sym (g .1)) in
     let m : i .«encoding_symbol_id» ≡ number s 1 3 = ap (λ (j : PayloadId). j .«encoding_symbol_id») q in
     let d = stored-done (i .«encoding_symbol_id») 16777215 9 4 (idBytes i) refl (omega (arith, m, number-lt s 1 3 b)) l w in
     (d .0, d .1 ∙ ap idBytes q ∙ id-front s b (omega arith) ∙ take-all 4 s (omega arith))
@@ -87,14 +87,14 @@ info-read-back o t z n a w =
     let u = stored (o .«transfer_length») 1099511627775 2 12 (infoBytes o) refl w in
     rw (u .1) (ap given (info-number o (omega arith) t z n a))
 
-pub info-write-back : (s : List ℕ) (o : ObjectTransmissionInformation) {xs ys : List ℕ} {r : Writing} → Bytes s → readInfo s ≡ given o
+pub info-write-back : (s : List ℕ) (o : ObjectTransmissionInformation) {xs ys : List ℕ} {r : Plain.Answer} → Bytes s → readInfo s ≡ given o
     → 12 ≤ length xs
     → Stores (roomForInfo o (length xs)) (infoBytes o) xs ys r
     → (r ≡ Done) × (take 12 ys ≡ set s 5 0)
 info-write-back s o b e l w =
-    let g = passed (not (eqb (length s) 12)) 8 (given (infoAt s)) o (sym e) in
+    let g = passed (not (eqb (length s) 12)) 8 (given (infoAt s)) o e in
     let n : length s ≡ 12 = eqb-true (length s) 12 (not-false (eqb (length s) 12) (g .0)) in
-    let q : o ≡ infoAt s = given-only o (infoAt s) (g .1) in
+    let q : o ≡ infoAt s = given-only o (infoAt s) (sym (g .1)) in
     let m : o .«transfer_length» ≡ number s 0 5 = ap (λ (p : ObjectTransmissionInformation). p .«transfer_length») q in
     let d = stored-done (o .«transfer_length») 1099511627775 2 12 (infoBytes o) refl (omega (arith, m, number-lt s 0 5 b)) l w in
     (d .0, d .1 ∙ ap infoBytes q ∙ info-front s b n)
@@ -112,14 +112,14 @@ packet-read-back i p s w =
       rw (u .1),
     )
 
-pub packet-write-back : (s : List ℕ) (i : PayloadId) (from len : ℕ) {xs ys : List ℕ} {r : Writing} → Bytes s → readPacket s ≡ given (i, from, len)
+pub packet-write-back : (s : List ℕ) (i : PayloadId) (from len : ℕ) {xs ys : List ℕ} {r : Plain.Answer} → Bytes s → readPacket s ≡ given (i, from, len)
     → length s ≤ length xs
     → Stores (roomForPacket i len (length xs)) (idBytes i ++ take len (drop from s)) xs ys r
     → (r ≡ Done) × (take (length s) ys ≡ s)
 packet-write-back s i from len {xs} {ys} b e l w =
-    let g = passed (ltb (length s) 4) 8 (given (idAt s, 4, length s - 4)) (i, from, len) (sym e) in
+    let g = passed (ltb (length s) 4) 8 (given (idAt s, 4, length s - 4)) (i, from, len) e in
     let h : 4 ≤ length s = ltb-false (length s) 4 (g .0) in
-    let p : _≡_ {A = PayloadId × ℕ × ℕ} (i, from, len) (idAt s, 4, length s - 4) = given-only (i, from, len) (idAt s, 4, length s - 4) (g .1) in
+    let p : _≡_ {A = PayloadId × ℕ × ℕ} (i, from, len) (idAt s, 4, length s - 4) = given-only (i, from, len) (idAt s, 4, length s - 4) (sym (g .1)) in
     let q : i ≡ idAt s = ap (λ (x : PayloadId × ℕ × ℕ). x .0) p in
     let f : from ≡ 4 = ap (λ (x : PayloadId × ℕ × ℕ). x .1) p in
     let n : 4 + len ≡ length s = omega (arith, ap (λ (x : PayloadId × ℕ × ℕ). x .2) p) in

@@ -7,8 +7,6 @@ use native.Mathlib.Omega.{arith}
 use borrow.Author.Tests.{ltb-true, ltb-false, leb-true, leb-false, eqb-true, eqb-false}
 use lib.Dec.{T, leb, ltb, eqb}
 use Rattle.field.specs.Choice.{both}
-use Rattle.field.specs.Answer.{Outcome, given, unless}
-use Rattle.field.proofs.Answers.{given-not-refused}
 use Rattle.headers.specs.Told.{Told}
 
 -- b is true where A holds, and false where it does not
@@ -64,11 +62,6 @@ pub tells-eq : (m n : ℕ) → Tells (eqb m n) (m ≡ n)
 tells-eq m n = record { passes = eqb-true m n; breaks = eqb-false m n }
 
 -- a computed test
-pub passed : (b : Bool) → T b → b ≡ true
-passed true t = refl
-passed false t = absurd t
-
--- a value given is given past every refusal
-pub given-past : {A : Type 0} (b : Bool) (n : ℕ) (o : Outcome A) (a : A) → given a ≡ unless b n o → (b ≡ false) × (given a ≡ o)
-given-past true n o a e = absurd (given-not-refused a n e)
-given-past false n o a e = (refl, e)
+pub is-test : (b : Bool) → T b → b ≡ true
+is-test true t = refl
+is-test false t = absurd t

@@ -13,13 +13,13 @@ use lib.ListN.{length}
 use Rattle.field.specs.Choice.{pick}
 use Rattle.field.specs.Answer.{given, unless}
 use Rattle.field.proofs.Answers.{given-only}
+use Rattle.field.proofs.Refusals.{passed}
 use Rattle.headers.specs.Rand.{mixed, random}
 use Rattle.headers.specs.Degree.{degree}
 use Rattle.headers.specs.Tuples.{seed, piDegree, tupleOf, Bounds, Ready, answer}
 use Rattle.headers.specs.Row.{Obeys, obeys, p1Of}
 use Rattle.headers.specs.declared.row.Row.{Row}
 use Rattle.headers.specs.declared.tuple.Tuple.{Tuple}
-use Rattle.headers.proofs.Tests.{given-past}
 use Rattle.headers.proofs.Accepted.{obeys-tells, ready}
 use Rattle.headers.proofs.Rising.{degree-high, degree-low, degree-w}
 
@@ -85,11 +85,11 @@ module _ (r : Row) (v : List ℕ) (x : ℕ) (t : Tuple) (e : given t ≡ answer 
   pub generated : (Obeys r) × (length v ≡ 1024) × (t ≡ tupleOf v (r .j) (r .w) (p1Of r) x)
   generated =
       let rest = given (tupleOf v (r .j) (r .w) (p1Of r) x) in
-      let p = given-past (not (obeys r)) 4 (unless (not (eqb (length v) 1024)) 5 rest) t e in
-      let q = given-past (not (eqb (length v) 1024)) 5 rest t (p .1) in (
+      let p = passed (not (obeys r)) 4 (unless (not (eqb (length v) 1024)) 5 rest) t (sym e) in
+      let q = passed (not (eqb (length v) 1024)) 5 rest t (p .1) in (
         obeys-tells r .passes (not-false (obeys r) (p .0)),
         eqb-true (length v) 1024 (not-false (eqb (length v) 1024) (q .0)),
-        given-only t (tupleOf v (r .j) (r .w) (p1Of r) x) (q .1),
+        given-only t (tupleOf v (r .j) (r .w) (p1Of r) x) (sym (q .1)),
       )
 
   pub generated-bounds : Bounds (r .w) (p1Of r) t

@@ -6,35 +6,24 @@ use mathlib.Core.List.{List, _++_}
 use Prim.Native.Nat.{ℕ, _+_, _-_, _%_}
 use lib.Dec.{eqb, ltb}
 use lib.ListN.{length}
-use Rattle.field.specs.Answer.{Outcome, given, refused, numberOf, unless}
+use Rattle.field.specs.Answer.{Outcome, Left, done, given, refused, numberOf, unless}
 use Rattle.field.specs.Choice.{both}
 use Rattle.headers.specs.Bytes.{Laid, inBytes, number}
 use Rattle.headers.specs.Quotient.{ceil}
 use Rattle.field.specs.declared.refusal.Refusal.{Refusal}
 use Rattle.field.specs.declared.refusal.Refusal.the-variants as Why
-use Rattle.headers.specs.declared.writing.Writing.{Writing}
-use Rattle.headers.specs.declared.writing.Writing.the-variants as Writings
+use Rattle.field.specs.declared.refusal.Answer as Plain
 use Rattle.headers.specs.declared.payload_id.PayloadId.{PayloadId}
 use Rattle.headers.specs.declared.payload_id.Answer as Ids
 use Rattle.headers.specs.declared.transmission.ObjectTransmissionInformation.{ObjectTransmissionInformation}
 use Rattle.headers.specs.declared.transmission.Answer as Infos
-use Rattle.headers.specs.declared.transmission.Verdict as Verdicts
 use Rattle.headers.specs.declared.packet.Head as Heads
 use Rattle.headers.specs.declared.packet.Answer as Packets
 
--- what a writer's answer stands for
-abbrev pub writingOutcome : Writing → Outcome (Unit {0})
-writingOutcome Writings.Done = given tt
-writingOutcome (Writings.Refused why) = refused (numberOf why)
-
--- what it leaves: the bytes at the front of the store, or the store as it was
-abbrev pub Left : List ℕ → List ℕ → List ℕ → Writing → Type 0
-Left bs xs ys Writings.Done = Laid bs xs ys 0
-Left bs xs ys (Writings.Refused why) = ys ≡ xs
-
-pub record Stores (room : Outcome (Unit {0})) (bs xs ys : List ℕ) (r : Writing) : Type 0 where
-  pub answer : writingOutcome r ≡ room
-  pub memory : Left bs xs ys r
+-- a writer answers by the room that it was lent, and leaves its bytes at the front of the store, or the store as it was
+pub record Stores (room : Outcome (Unit {0})) (bs xs ys : List ℕ) (r : Plain.Answer) : Type 0 where
+  pub answer : done r ≡ room
+  pub memory : Left (done r) xs ys (Laid bs xs ys 0)
 
 -- may it be done? A number of at most `most`, else n; a store of at least `need` bytes, else 8
 abbrev pub room : ℕ → ℕ → ℕ → ℕ → ℕ → Outcome (Unit {0})
@@ -83,10 +72,6 @@ readInfo s = unless (not (eqb (length s) 12)) 8 (given (infoAt s))
 
 abbrev pub roomForInfo : ObjectTransmissionInformation → ℕ → Outcome (Unit {0})
 roomForInfo o = room (o .«transfer_length») 1099511627775 2 12
-
-abbrev pub checkOutcome : Verdicts.Verdict → Outcome (Unit {0})
-checkOutcome Verdicts.the-variants.Accepted = given tt
-checkOutcome (Verdicts.the-variants.Refused why) = refused (numberOf why)
 
 -- too many symbols in a block: T and Z are not 0, and ceil(ceil(F/T)/Z) exceeds the largest K'
 abbrev pub crowded : ℕ → ℕ → ℕ → Bool

@@ -10,4 +10,3 @@ pub mod rng;
 pub mod row;
 pub mod transmission;
 pub mod tuple;
-pub mod writing;

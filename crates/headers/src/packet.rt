@@ -6,7 +6,7 @@ ghost use Rattle.headers.specs.Headers.{Stores, headOutcome, headed, idB
 use crate::beneath::big_endian;
 use crate::beneath::front;
 use crate::payload_id::PayloadId;
-use crate::writing::Writing;
+use field::refusal;
 use field::refusal::Refusal;
 
 // Where the reading of a packet goes on.
@@ -64,19 +64,19 @@ pub fn deserialize(bytes: &[u8]) -> Answer
     }
 }
 
-pub fn serialize(id: PayloadId, bytes: &[u8], store: &mut [u8]) -> Writing
+pub fn serialize(id: PayloadId, bytes: &[u8], store: &mut [u8]) -> refusal::Answer
     ensures { λ r. ⌜ Stores (roomForPacket id (length (now (bytes .entry))) (length (now (store .entry)))) (idBytes id ++ now (bytes .entry)) (now (store .entry)) (now (store .exit)) r ⌝ }
 {
     if id.encoding_symbol_id >= 16777216 {
-        return Writing::Refused(Refusal::BadCount);
+        return refusal::Answer::Refused(Refusal::BadCount);
     }
     if store.len() < 4 {
-        return Writing::Refused(Refusal::WrongLength);
+        return refusal::Answer::Refused(Refusal::WrongLength);
     }
     if store.len() - 4 < bytes.len() {
-        return Writing::Refused(Refusal::WrongLength);
+        return refusal::Answer::Refused(Refusal::WrongLength);
     }
     front::put(store, id);
     big_endian::copy(store, 4, bytes);
-    Writing::Done
+    refusal::Answer::Done
 }

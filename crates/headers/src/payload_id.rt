@@ -3,7 +3,7 @@ ghost use mathlib.Core.Path.{_≡_};
 ghost use lib.ListN.{length};
 ghost use Rattle.headers.specs.Headers.{Stores, idBytes, idOutcome, readId, roomForId};
 use crate::beneath::front;
-use crate::writing::Writing;
+use field::refusal;
 use field::refusal::Refusal;
 
 pub struct PayloadId {
@@ -25,15 +25,15 @@ pub fn deserialize(bytes: &[u8]) -> Answer
     Answer::Id(front::get(bytes))
 }
 
-pub fn serialize(id: PayloadId, store: &mut [u8]) -> Writing
+pub fn serialize(id: PayloadId, store: &mut [u8]) -> refusal::Answer
     ensures { λ r. ⌜ Stores (roomForId id (length (now (store .entry)))) (idBytes id) (now (store .entry)) (now (store .exit)) r ⌝ }
 {
     if id.encoding_symbol_id >= 16777216 {
-        return Writing::Refused(Refusal::BadCount);
+        return refusal::Answer::Refused(Refusal::BadCount);
     }
     if store.len() < 4 {
-        return Writing::Refused(Refusal::WrongLength);
+        return refusal::Answer::Refused(Refusal::WrongLength);
     }
     front::put(store, id);
-    Writing::Done
+    refusal::Answer::Done
 }

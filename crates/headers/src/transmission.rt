@@ -2,11 +2,12 @@
 ghost use mathlib.Core.Path.{_≡_};
 ghost use Prim.Native.Nat.{_≤_};
 ghost use lib.ListN.{length};
+ghost use Rattle.field.specs.Answer.{done};
 ghost use Rattle.headers.specs.Bytes.{Laid};
-ghost use Rattle.headers.specs.Headers.{Stores, checkOutcome, checked, crowded, infoBytes, infoOutcome, readInfo, roomForInfo};
+ghost use Rattle.headers.specs.Headers.{Stores, checked, crowded, infoBytes, infoOutcome, readInfo, roomForInfo};
 use crate::beneath::big_endian;
 use crate::beneath::util;
-use crate::writing::Writing;
+use field::refusal;
 use field::refusal::Refusal;
 
 pub struct ObjectTransmissionInformation {
@@ -19,11 +20,6 @@ pub struct ObjectTransmissionInformation {
 
 pub enum Answer {
     Information(ObjectTransmissionInformation),
-    Refused(Refusal),
-}
-
-pub enum Verdict {
-    Accepted,
     Refused(Refusal),
 }
 
@@ -48,17 +44,17 @@ pub fn deserialize(bytes: &[u8]) -> Answer
     })
 }
 
-pub fn serialize(info: ObjectTransmissionInformation, store: &mut [u8]) -> Writing
+pub fn serialize(info: ObjectTransmissionInformation, store: &mut [u8]) -> refusal::Answer
     ensures { λ r. ⌜ Stores (roomForInfo info (length (now (store .entry)))) (infoBytes info) (now (store .entry)) (now (store .exit)) r ⌝ }
 {
     if info.transfer_length >= 1099511627776 {
-        return Writing::Refused(Refusal::OutOfRange);
+        return refusal::Answer::Refused(Refusal::OutOfRange);
     }
     if store.len() < 12 {
-        return Writing::Refused(Refusal::WrongLength);
+        return refusal::Answer::Refused(Refusal::WrongLength);
     }
     put(store, info);
-    Writing::Done
+    refusal::Answer::Done
 }
 
 fn put(store: &mut [u8], info: ObjectTransmissionInformation)
@@ -87,24 +83,24 @@ fn is_crowded(f: u64, t: u16, z: u8) -> bool
 }
 
 // As the crate's `new`, T = 0 and Z = 0 pass.
-pub fn check(info: ObjectTransmissionInformation) -> Verdict
-    ensures { λ r. ⌜ checkOutcome r ≡ checked info ⌝ }
+pub fn check(info: ObjectTransmissionInformation) -> refusal::Answer
+    ensures { λ r. ⌜ done r ≡ checked info ⌝ }
 {
     if info.transfer_length > 942574504275 {
-        return Verdict::Refused(Refusal::BadTransmission);
+        return refusal::Answer::Refused(Refusal::BadTransmission);
     }
     if info.symbol_alignment == 0 {
-        return Verdict::Refused(Refusal::BadTransmission);
+        return refusal::Answer::Refused(Refusal::BadTransmission);
     }
     if info.symbol_size % info.symbol_alignment as u16 != 0 {
-        return Verdict::Refused(Refusal::BadTransmission);
+        return refusal::Answer::Refused(Refusal::BadTransmission);
     }
     if is_crowded(
         info.transfer_length,
         info.symbol_size,
         info.num_source_blocks,
     ) {
-        return Verdict::Refused(Refusal::BadTransmission);
+        return refusal::Answer::Refused(Refusal::BadTransmission);
     }
-    Verdict::Accepted
+    refusal::Answer::Done
 }

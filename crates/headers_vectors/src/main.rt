@@ -4,6 +4,7 @@
 ghost use mathlib.Core.Path.{_≡_};
 ghost use Prim.Native.Nat.{_<_, _≤_};
 ghost use lib.ListN.{length};
+use field::refusal;
 use field::refusal::Refusal;
 use field::refusal::number;
 use headers::deg;
@@ -18,7 +19,6 @@ use headers::row::Checked;
 use headers::row::Row;
 use headers::transmission;
 use headers::transmission::ObjectTransmissionInformation;
-use headers::transmission::Verdict;
 use headers::tuple;
 use headers::tuple::Generated;
 
@@ -130,12 +130,12 @@ fn say_tuple(g: Generated) {
     }
 }
 
-fn say_verdict(v: Verdict) {
+fn say_verdict(v: refusal::Answer) {
     match v {
-        Verdict::Accepted => {
+        refusal::Answer::Done => {
             io::write_all(1, b"accepted ");
         }
-        Verdict::Refused(why) => refuse(why),
+        refusal::Answer::Refused(why) => refuse(why),
     }
 }
 

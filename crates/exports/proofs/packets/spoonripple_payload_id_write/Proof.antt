@@ -1,7 +1,7 @@
 -- `exports::packets::spoonripple_payload_id_write` meets its contract: it tells what `payload_id::serialize` answered.
 -- Assumes nothing.
 use borrow.Author.Needs.{needs}
-use Rattle.exports.proofs.Calls.{called-stored}
+use Rattle.exports.proofs.Calls.{did-as}
 use Rattle.exports.proofs.packets.spoonripple_payload_id_write.Statement.{statement}
 use Rattle.exports.proofs.packets.spoonripple_payload_id_write.Tie as tie
 
@@ -15,7 +15,9 @@ same-length : tie.Need-same-length
 same-length c = search needs
 
 returns : tie.Need-returns
-returns c = called-stored (c .before .before .before .serialize .ensures) (c .told .ensures)
+returns c =
+    let w = c .before .before .before .serialize in
+    did-as (w .result) (w .ensures .answer) (w .ensures .memory) (c .told .ensures)
 
 pub spoonripple-payload-id-write-spec : {M : Type 1} → statement M
 spoonripple-payload-id-write-spec =

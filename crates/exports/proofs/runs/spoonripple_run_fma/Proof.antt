@@ -1,11 +1,13 @@
 -- `exports::runs::spoonripple_run_fma` meets its contract: two runs of one length are what `bytes::fma` makes of them.
 -- Assumes nothing.
-use mathlib.Core.Path.{refl, sym}
-use borrow.Author.Tests.{eq-eqb, ne-eqb}
-use Rattle.field.proofs.Writing.{written-is}
+use mathlib.Core.Path.{refl}
 use borrow.Author.Needs.{needs}
+use borrow.Author.Tests.{eq-eqb, ne-eqb}
 use Rattle.exports.proofs.runs.spoonripple_run_fma.Statement.{statement}
 use Rattle.exports.proofs.runs.spoonripple_run_fma.Tie as tie
+
+returns : tie.Need-returns
+returns c = rw (ne-eqb _ _ (c .if1 .taken)) (record { answer = refl; memory = refl })
 
 fma-requires : tie.Need-fma-requires
 fma-requires c κs = search needs
@@ -13,11 +15,8 @@ fma-requires c κs = search needs
 same-length : tie.Need-same-length
 same-length c = search needs
 
-returns : tie.Need-returns
-returns c = rw (eq-eqb _ _ (c .before .before .before .before .if1 .taken)) (refl, written-is (c .before .before .fma .ensures) (sym (c .before .before .before .before .if1 .taken)))
-
 returns-2 : tie.Need-returns-2
-returns-2 c = rw (ne-eqb _ _ (c .if1 .left)) (refl, refl)
+returns-2 c = rw (eq-eqb _ _ (c .before .before .before .before .if1 .left)) (record { answer = refl; memory = c .before .before .fma .ensures })
 
 pub spoonripple-run-fma-spec : {M : Type 1} → statement M
-spoonripple-run-fma-spec = tie.close (tie.spec fma-requires same-length returns returns-2)
+spoonripple-run-fma-spec = tie.close (tie.spec returns fma-requires same-length returns-2)

@@ -2,9 +2,8 @@
 -- Assumes nothing.
 use mathlib.Core.Path.{refl, sym, ap}
 use native.Mathlib.Omega.{arith}
-use Rattle.field.specs.Answer.{given}
-use Rattle.headers.specs.Headers.{checkOutcome}
-use Rattle.headers.specs.declared.transmission.Verdict.{Verdict}
+use Rattle.field.specs.Answer.{done, given}
+use Rattle.field.specs.declared.refusal.Answer as Plain
 use Rattle.header_text.specs.Text.{verdictLine}
 use Rattle.header_text.proofs.Lines.{lined-is}
 use borrow.Author.Needs.{needs}
@@ -35,14 +34,14 @@ same-length c = search needs
 returns : tie.Need-returns
 returns c =
     lined-is (record { laid = c .before .before .copy .ensures; ends = refl; short = omega arith })
-    (ap (λ (v : Verdict). verdictLine (checkOutcome v)) (sym (c .before .before .before .before .before .enum-told .given .1)))
+    (ap (λ (v : Plain.Answer). verdictLine (done v)) (sym (c .before .before .before .before .before .enum-told .given .1)))
 
 same-length-2 : tie.Need-same-length-2
 same-length-2 c = search needs
 
 returns-2 : tie.Need-returns-2
 returns-2 c =
-    lined-is (c .before .before .refusal-line .ensures) (ap (λ (v : Verdict). verdictLine (checkOutcome v)) (sym (c .before .before .before .before .before .verdict .given .1)))
+    lined-is (c .before .before .refusal-line .ensures) (ap (λ (v : Plain.Answer). verdictLine (done v)) (sym (c .before .before .before .before .before .verdict .given .1)))
 
 pub verdict-line-spec : {M : Type 1} → statement M
 verdict-line-spec =
