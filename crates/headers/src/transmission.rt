@@ -3,7 +3,7 @@ ghost use mathlib.Core.Path.{_≡_};
 ghost use Prim.Native.Nat.{_≤_};
 ghost use lib.ListN.{length};
 ghost use Rattle.headers.specs.Bytes.{Laid};
-ghost use Rattle.headers.specs.Headers.{Stores, checkOutcome, checked, crowded, infoBytes, infoOutcome, readInfo, roomForInfo};
+ghost use Rattle.headers.specs.Headers.{InfoStored, checkOutcome, checked, crowded, infoBytes, infoOutcome, readInfo};
 use crate::beneath::big_endian;
 use crate::beneath::util;
 use crate::writing::Writing;
@@ -49,7 +49,7 @@ pub fn deserialize(bytes: &[u8]) -> Answer
 }
 
 pub fn serialize(info: ObjectTransmissionInformation, store: &mut [u8]) -> Writing
-    ensures { λ r. ⌜ Stores (roomForInfo info (length (now (store .entry)))) (infoBytes info) (now (store .entry)) (now (store .exit)) r ⌝ }
+    ensures { λ r. ⌜ InfoStored info (now (store .entry)) (now (store .exit)) r ⌝ }
 {
     if info.transfer_length >= 1099511627776 {
         return Writing::Refused(Refusal::OutOfRange);
