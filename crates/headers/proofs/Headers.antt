@@ -1,4 +1,4 @@
--- Payload ids, transmission information and packets.
+-- A struct is its numbers, a packet is its front and the rest, and the twelve bytes are laid a number at a time.
 -- Assumes nothing.
 use mathlib.Core.Path.{_≡_, refl, sym, ap, ap₂, _∙_}
 use mathlib.Core.List.{List, _++_}

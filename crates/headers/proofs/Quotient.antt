@@ -26,9 +26,17 @@ module _ (a b : ℕ) (h : 0 < b) where
   pub quotient-lt : (a % b ≡ 0 → ⊥) → a / b < a
   quotient-lt d = omega (arith, div-add-mod' a b, le-mul-of-pos-right (a / b) h)
 
-  pub ceil-le : ceil a b ≤ a
+  -- the definition is the smallest n with a at most n times b: large enough, and no smaller does
+  pub ceil-least : (n : ℕ) → a ≤ n * b → ceil a b ≤ n
   unfolding ceil
-  ceil-le =
-      let m : a + (b - 1) < (a + 1) * b = omega (arith, add-mul a 1 b, one-mul b, le-mul-of-pos-right a h) in
-      let l : (a + (b - 1)) / b < a + 1 = div-lt-iff-lt-mul h .1 m in
+  ceil-least n l =
+      let m : a + (b - 1) < (n + 1) * b = omega (arith, add-mul n 1 b, one-mul b) in
+      let d : (a + (b - 1)) / b < n + 1 = div-lt-iff-lt-mul h .1 m in
       omega arith
+
+  pub ceil-enough : a ≤ ceil a b * b
+  unfolding ceil
+  ceil-enough = omega (arith, div-add-mod' (a + (b - 1)) b, mod-lt (a + (b - 1)) h)
+
+  pub ceil-le : ceil a b ≤ a
+  ceil-le = ceil-least a (le-mul-of-pos-right a h)

@@ -12,7 +12,7 @@ use lib.Seq.{take-all, set-split}
 use Rattle.field.specs.Answer.{given, unless}
 use Rattle.field.proofs.Answers.{given-only}
 use Rattle.headers.specs.Bytes.{number}
-use Rattle.headers.specs.Headers.{Stores, room, idAt, idBytes, readId, roomForId, infoAt, infoBytes, readInfo, roomForInfo, readPacket, roomForPacket}
+use Rattle.headers.specs.Headers.{Stores, room, IdStored, InfoStored, PacketStored, idAt, idBytes, readId, infoAt, infoBytes, readInfo, readPacket}
 use Rattle.field.specs.declared.refusal.Answer as Plain
 use Rattle.field.specs.declared.refusal.Answer.the-variants.{Done}
 use Rattle.headers.specs.declared.payload_id.PayloadId.{PayloadId}
@@ -44,14 +44,14 @@ id-number i rest s e = id-is (omega arith) (omega arith)
 id-front : (s : List ℕ) → Bytes s → 4 ≤ length s → idBytes (idAt s) ≡ take 4 s
 id-front s b h = inBytes-next s 0 1 3 b (omega arith) (inBytes-number s 1 3 b (omega arith))
 
-pub id-read-back : (i : PayloadId) {xs ys : List ℕ} → i .«source_block_number» < 256 → Stores (roomForId i (length xs)) (idBytes i) xs ys Done
+pub id-read-back : (i : PayloadId) {xs ys : List ℕ} → i .«source_block_number» < 256 → IdStored i xs ys Done
     → readId (take 4 ys) ≡ given i
 id-read-back i s w =
     let u = stored (i .«encoding_symbol_id») 16777215 9 4 (idBytes i) refl w in
     rw (u .1) (ap given (id-number i [] s (omega arith)))
 
 pub id-write-back : (s : List ℕ) (i : PayloadId) {xs ys : List ℕ} {r : Plain.Answer} → Bytes s → readId s ≡ given i → 4 ≤ length xs
-    → Stores (roomForId i (length xs)) (idBytes i) xs ys r
+    → IdStored i xs ys r
     → (r ≡ Done) × (take 4 ys ≡ s)
 id-write-back s i b e l w =
     let g = passed (not (eqb (length s) 4)) 8 (given (idAt s)) i e in
@@ -81,7 +81,7 @@ info-front s b e =
 pub info-read-back : (o : ObjectTransmissionInformation) {xs ys : List ℕ} → o .«symbol_size» < 65536 → o .«num_source_blocks» < 256
     → o .«num_sub_blocks» < 65536
     → o .«symbol_alignment» < 256
-    → Stores (roomForInfo o (length xs)) (infoBytes o) xs ys Done
+    → InfoStored o xs ys Done
     → readInfo (take 12 ys) ≡ given o
 info-read-back o t z n a w =
     let u = stored (o .«transfer_length») 1099511627775 2 12 (infoBytes o) refl w in
@@ -89,7 +89,7 @@ info-read-back o t z n a w =
 
 pub info-write-back : (s : List ℕ) (o : ObjectTransmissionInformation) {xs ys : List ℕ} {r : Plain.Answer} → Bytes s → readInfo s ≡ given o
     → 12 ≤ length xs
-    → Stores (roomForInfo o (length xs)) (infoBytes o) xs ys r
+    → InfoStored o xs ys r
     → (r ≡ Done) × (take 12 ys ≡ set s 5 0)
 info-write-back s o b e l w =
     let g = passed (not (eqb (length s) 12)) 8 (given (infoAt s)) o e in
@@ -102,7 +102,7 @@ info-write-back s o b e l w =
 -- Packets
 
 pub packet-read-back : (i : PayloadId) (p : List ℕ) {xs ys : List ℕ} → i .«source_block_number» < 256
-    → Stores (roomForPacket i (length p) (length xs)) (idBytes i ++ p) xs ys Done
+    → PacketStored i p xs ys Done
     → (readPacket (take (4 + length p) ys) ≡ given (i, 4, length p)) × (drop 4 (take (4 + length p) ys) ≡ p)
 packet-read-back i p s w =
     let n : length (idBytes i ++ p) ≡ 4 + length p = length-append (idBytes i) p in
@@ -114,7 +114,7 @@ packet-read-back i p s w =
 
 pub packet-write-back : (s : List ℕ) (i : PayloadId) (from len : ℕ) {xs ys : List ℕ} {r : Plain.Answer} → Bytes s → readPacket s ≡ given (i, from, len)
     → length s ≤ length xs
-    → Stores (roomForPacket i len (length xs)) (idBytes i ++ take len (drop from s)) xs ys r
+    → PacketStored i (take len (drop from s)) xs ys r
     → (r ≡ Done) × (take (length s) ys ≡ s)
 packet-write-back s i from len {xs} {ys} b e l w =
     let g = passed (ltb (length s) 4) 8 (given (idAt s, 4, length s - 4)) (i, from, len) e in
@@ -122,13 +122,14 @@ packet-write-back s i from len {xs} {ys} b e l w =
     let p : _≡_ {A = PayloadId × ℕ × ℕ} (i, from, len) (idAt s, 4, length s - 4) = given-only (i, from, len) (idAt s, 4, length s - 4) (sym (g .1)) in
     let q : i ≡ idAt s = ap (λ (x : PayloadId × ℕ × ℕ). x .0) p in
     let f : from ≡ 4 = ap (λ (x : PayloadId × ℕ × ℕ). x .1) p in
-    let n : 4 + len ≡ length s = omega (arith, ap (λ (x : PayloadId × ℕ × ℕ). x .2) p) in
+    let z : len ≡ length s - 4 = ap (λ (x : PayloadId × ℕ × ℕ). x .2) p in
     let m : i .«encoding_symbol_id» ≡ number s 1 3 = ap (λ (j : PayloadId). j .«encoding_symbol_id») q in
     let t : take len (drop from s) ≡ drop 4 s = ap (λ (x : ℕ). take len (drop x s)) f ∙ take-all len (drop 4 s) (omega (arith, length-drop 4 s)) in
+    let n : 4 + length (take len (drop from s)) ≡ length s = omega (arith, ap length t, length-drop 4 s) in
     let a : idBytes i ++ take len (drop from s) ≡ s =
     ap₂ (λ (x y : List ℕ). x ++ y) (ap idBytes q ∙ id-front s b h) t ∙ take-append-drop 4 s
     in
-    let d = stored-done (i .«encoding_symbol_id») 16777215 9 (4 + len) (idBytes i ++ take len (drop from s)) (ap length a ∙ sym n)
-    (omega (arith, m, number-lt s 1 3 b)) (omega arith) w
+    let d = stored-done (i .«encoding_symbol_id») 16777215 9 (4 + length (take len (drop from s))) (idBytes i ++ take len (drop from s))
+    (ap length a ∙ sym n) (omega (arith, m, number-lt s 1 3 b)) (omega arith) w
     in
     (d .0, ap (λ (x : ℕ). take x ys) (sym n) ∙ d .1 ∙ a)

@@ -46,6 +46,10 @@ readId s = unless (not (eqb (length s) 4)) 8 (given (idAt s))
 abbrev pub roomForId : PayloadId → ℕ → Outcome (Unit {0})
 roomForId i = room (i .«encoding_symbol_id») 16777215 9 4
 
+-- xs and ys: the store before and after
+abbrev pub IdStored : PayloadId → List ℕ → List ℕ → Plain.Answer → Type 0
+IdStored i xs ys = Stores (roomForId i (length xs)) (idBytes i) xs ys
+
 -- F 5 bytes, reserved 1, T 2, Z 1, N 2, Al 1
 abbrev pub infoBytes : ObjectTransmissionInformation → List ℕ
 infoBytes o =
@@ -72,6 +76,9 @@ readInfo s = unless (not (eqb (length s) 12)) 8 (given (infoAt s))
 
 abbrev pub roomForInfo : ObjectTransmissionInformation → ℕ → Outcome (Unit {0})
 roomForInfo o = room (o .«transfer_length») 1099511627775 2 12
+
+abbrev pub InfoStored : ObjectTransmissionInformation → List ℕ → List ℕ → Plain.Answer → Type 0
+InfoStored o xs ys = Stores (roomForInfo o (length xs)) (infoBytes o) xs ys
 
 -- too many symbols in a block: T and Z are not 0, and ceil(ceil(F/T)/Z) exceeds the largest K'
 abbrev pub crowded : ℕ → ℕ → ℕ → Bool
@@ -108,3 +115,6 @@ packetOutcome (Packets.the-variants.Refused why) = refused (numberOf why)
 -- an id and n bytes more
 abbrev pub roomForPacket : PayloadId → ℕ → ℕ → Outcome (Unit {0})
 roomForPacket i n = room (i .«encoding_symbol_id») 16777215 9 (4 + n)
+
+abbrev pub PacketStored : PayloadId → List ℕ → List ℕ → List ℕ → Plain.Answer → Type 0
+PacketStored i bs xs ys = Stores (roomForPacket i (length bs) (length xs)) (idBytes i ++ bs) xs ys

@@ -1,8 +1,6 @@
 // A packet: a payload id, and the bytes of its symbols (RFC 6330, 4.4.2).
 ghost use mathlib.Core.Path.{_≡_};
-ghost use mathlib.Core.List.{_++_};
-ghost use lib.ListN.{length};
-ghost use Rattle.headers.specs.Headers.{Stores, headOutcome, headed, idBytes, packetOutcome, readPacket, refusalOf, roomForPacket};
+ghost use Rattle.headers.specs.Headers.{PacketStored, headOutcome, headed, packetOutcome, readPacket, refusalOf};
 use crate::beneath::big_endian;
 use crate::beneath::front;
 use crate::payload_id::PayloadId;
@@ -65,7 +63,7 @@ pub fn deserialize(bytes: &[u8]) -> Answer
 }
 
 pub fn serialize(id: PayloadId, bytes: &[u8], store: &mut [u8]) -> refusal::Answer
-    ensures { λ r. ⌜ Stores (roomForPacket id (length (now (bytes .entry))) (length (now (store .entry)))) (idBytes id ++ now (bytes .entry)) (now (store .entry)) (now (store .exit)) r ⌝ }
+    ensures { λ r. ⌜ PacketStored id (now (bytes .entry)) (now (store .entry)) (now (store .exit)) r ⌝ }
 {
     if id.encoding_symbol_id >= 16777216 {
         return refusal::Answer::Refused(Refusal::BadCount);

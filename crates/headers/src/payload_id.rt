@@ -1,7 +1,6 @@
 // The payload id: the block's number in one byte, the encoding symbol id in three (RFC 6330, 3.2).
 ghost use mathlib.Core.Path.{_≡_};
-ghost use lib.ListN.{length};
-ghost use Rattle.headers.specs.Headers.{Stores, idBytes, idOutcome, readId, roomForId};
+ghost use Rattle.headers.specs.Headers.{IdStored, idOutcome, readId};
 use crate::beneath::front;
 use field::refusal;
 use field::refusal::Refusal;
@@ -26,7 +25,7 @@ pub fn deserialize(bytes: &[u8]) -> Answer
 }
 
 pub fn serialize(id: PayloadId, store: &mut [u8]) -> refusal::Answer
-    ensures { λ r. ⌜ Stores (roomForId id (length (now (store .entry)))) (idBytes id) (now (store .entry)) (now (store .exit)) r ⌝ }
+    ensures { λ r. ⌜ IdStored id (now (store .entry)) (now (store .exit)) r ⌝ }
 {
     if id.encoding_symbol_id >= 16777216 {
         return refusal::Answer::Refused(Refusal::BadCount);

@@ -4,7 +4,7 @@ ghost use Prim.Native.Nat.{_≤_};
 ghost use lib.ListN.{length};
 ghost use Rattle.field.specs.Answer.{done};
 ghost use Rattle.headers.specs.Bytes.{Laid};
-ghost use Rattle.headers.specs.Headers.{Stores, checked, crowded, infoBytes, infoOutcome, readInfo, roomForInfo};
+ghost use Rattle.headers.specs.Headers.{InfoStored, checked, crowded, infoBytes, infoOutcome, readInfo};
 use crate::beneath::big_endian;
 use crate::beneath::util;
 use field::refusal;
@@ -45,7 +45,7 @@ pub fn deserialize(bytes: &[u8]) -> Answer
 }
 
 pub fn serialize(info: ObjectTransmissionInformation, store: &mut [u8]) -> refusal::Answer
-    ensures { λ r. ⌜ Stores (roomForInfo info (length (now (store .entry)))) (infoBytes info) (now (store .entry)) (now (store .exit)) r ⌝ }
+    ensures { λ r. ⌜ InfoStored info (now (store .entry)) (now (store .exit)) r ⌝ }
 {
     if info.transfer_length >= 1099511627776 {
         return refusal::Answer::Refused(Refusal::OutOfRange);

@@ -21,40 +21,58 @@ fn number(label: &[u8], x: u32) {
     io::write_all(STDOUT_FILENO, b"\n");
 }
 
+fn four(il: u32, is: u32, jl: u32, js: u32) {
+    number(b"IL ", il);
+    number(b"IS ", is);
+    number(b"JL ", jl);
+    number(b"JS ", js);
+}
+
 fn parts(i: u32, j: u32) {
     number(b"partition ", i);
     number(b"into ", j);
     let answer = partition::partition(i, j);
     match answer {
-        partition::Answer::Parts { il, is, jl, js } => {
-            number(b"IL ", il);
-            number(b"IS ", is);
-            number(b"JL ", jl);
-            number(b"JS ", js);
-        }
+        partition::Answer::Parts { il, is, jl, js } => four(il, is, jl, js),
         partition::Answer::Refused(why) => number(b"refused ", field::refusal::number(why)),
     }
 }
 
-fn main() {
+fn accepted() {
     header(b"example");
     header(b"largest");
-    header(b"one-byte-more");
-    header(b"no-alignment");
-    header(b"not-aligned");
     header(b"56403-symbols");
-    header(b"56404-symbols");
-    header(b"2-to-the-32-symbols");
     header(b"no-size");
     header(b"no-blocks");
     header(b"reserved-byte-set");
+}
+
+fn refused_3() {
+    header(b"one-byte-more");
+    header(b"56404-symbols");
+    header(b"2-to-the-32-symbols");
+    header(b"no-alignment");
+    header(b"not-aligned");
     header(b"all-ones");
+}
+
+fn refused_8() {
+    header(b"empty");
     header(b"15-bytes");
     header(b"17-bytes");
-    header(b"empty");
+}
+
+fn partitions() {
     parts(10, 3);
     parts(0, 5);
     parts(5, 0);
     parts(4294967295, 1);
     parts(4294967295, 4294967295);
+}
+
+fn main() {
+    accepted();
+    refused_3();
+    refused_8();
+    partitions();
 }
