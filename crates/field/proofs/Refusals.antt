@@ -48,12 +48,22 @@ pub left-once : {A : Type 0} (P : List ℕ → Type 0) (o : Outcome A) (xs ys zs
 left-once P (given a) xs ys zs once h k = once h k
 left-once P (refused n) xs ys zs once h k = h ∙ sym k
 
--- a call with refusals o that writes f to the n places from `at` on
-module _ {o : Outcome (Unit {0})} (f : ℕ → ℕ) (at n : ℕ) (xs ys zs : List ℕ) (a b : Plain.Answer) (p : done a ≡ o) (q : done b ≡ o) where
-  pub answer-once : a ≡ b
-  answer-once = done-only a b (p ∙ sym q)
+-- what a contract allows: the answer stands for o, and memory is as it was or as P says
+abbrev pub Allows : {R A : Type 0} → (R → Outcome A) → Outcome A → List ℕ → (List ℕ → Type 0) → R → List ℕ → Type 0
+Allows of o xs P r ys = (of r ≡ o) × Left (of r) xs ys (P ys)
 
-  pub memory-once : Left (done a) xs ys (Written f xs ys at n) → Left (done b) xs zs (Written f xs zs at n) → ys ≡ zs
-  memory-once h k =
-      left-once (λ l. Written f xs l at n) (done a) xs ys zs (λ u v. written-once u v) h
-      (subst (λ (r : Outcome (Unit {0})). Left r xs zs (Written f xs zs at n)) (q ∙ sym p) k)
+-- any two results that it allows are the same
+abbrev pub Settles : {R A : Type 0} → (R → Outcome A) → Outcome A → List ℕ → (List ℕ → Type 0) → Type 0
+Settles {R} of o xs P = (a b : R) (ys zs : List ℕ) → Allows of o xs P a ys → Allows of o xs P b zs → (a ≡ b) × (ys ≡ zs)
+
+pub settles : {R A : Type 0} (of : R → Outcome A) (o : Outcome A) (xs : List ℕ) (P : List ℕ → Type 0) → ((a b : R) → of a ≡ of b → a ≡ b)
+    → ((ys zs : List ℕ) → P ys → P zs → ys ≡ zs) → Settles of o xs P
+settles {R} {A} of o xs P only once a b ys zs h k = (
+  only a b (h .0 ∙ sym (k .0)),
+  left-once P (of a) xs ys zs (once ys zs) (h .1) (subst (λ (r : Outcome A). Left r xs zs (P zs)) (k .0 ∙ sym (h .0)) (k .1)),
+)
+
+-- of a call that writes f to the n places from `at` on
+pub settles-written : {R A : Type 0} (of : R → Outcome A) (o : Outcome A) (xs : List ℕ) (f : ℕ → ℕ) (at n : ℕ) → ((a b : R) → of a ≡ of b → a ≡ b)
+    → Settles of o xs (λ ys. Written f xs ys at n)
+settles-written of o xs f at n only = settles of o xs (λ ys. Written f xs ys at n) only (λ ys zs u v. written-once u v)

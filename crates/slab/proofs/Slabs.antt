@@ -10,7 +10,10 @@ use native.Mathlib.Decide.{ℕ-discrete, decLt}
 use native.Mathlib.Omega.{arith}
 use borrow.Author.Tests.{ltb-false, leb-false, eqb-false, ne-eqb}
 use lib.Dec.{eqb, ltb, leb}
-use lib.ListN.{length}
+use lib.ListN.{length, getD, drop, length-take, length-drop}
+use lib.Seq.{ext-getD}
+use Rattle.field.specs.Runs.{Written}
+use Rattle.field.proofs.Parts.{part-at}
 use Rattle.field.specs.Answer.{Outcome, given}
 use Rattle.field.specs.declared.refusal.Refusal.{Refusal}
 use Rattle.field.proofs.Answers.{given-only}
@@ -101,3 +104,21 @@ module _ (xs : List ℕ) {o : Outcome (ℕ × ℕ)} (r : Range) (q : range r ≡
 
   pub shown-none : (why : Refusal) → r ≡ Ranges.Refused why → [] ≡ shown o xs
   shown-none why e = sym (ap (λ (p : Outcome (ℕ × ℕ)). shown p xs) (sym q) ∙ ap (λ (y : Range). shown (range y) xs) e)
+
+-- the bytes of the physical symbol that was written, and that no other has changed
+module _ {f : ℕ → ℕ} {xs ys : List ℕ} (p t : ℕ) (w : Written f xs ys (p * t) t) where
+  pub symbol-written : (k : ℕ) → k < t → getD (part ys (p * t) t) k 0 ≡ f k
+  symbol-written k h = part-at ys (p * t) t k h ∙ w .part k h
+
+  pub symbol-other : (q : ℕ) → (q ≡ p → ⊥) → part ys (q * t) t ≡ part xs (q * t) t
+  symbol-other q d = ext-getD 0 (part ys (q * t) t) (part xs (q * t) t) long (λ k b. go k (omega (arith, length-take t (drop (q * t) ys))) (decLt q p))
+    where
+      long : length (part ys (q * t) t) ≡ length (part xs (q * t) t)
+      long = simp (length-take, length-drop, w .size)
+
+      go : (k : ℕ) → k < t → Dec (q < p) → getD (part ys (q * t) t) k 0 ≡ getD (part xs (q * t) t) k 0
+      go k h (yes l) = let e = inside t l in part-at ys (q * t) t k h ∙ w .low (q * t + k) (omega arith) ∙ sym (part-at xs (q * t) t k h)
+      go k h (no l) =
+          let r : p < q = omega (arith, d) in
+          let e = inside t r in
+          part-at ys (q * t) t k h ∙ w .high (q * t + k) (omega arith) ∙ sym (part-at xs (q * t) t k h)

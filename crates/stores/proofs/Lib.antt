@@ -4,3 +4,5 @@ pub mod Rows
 pub mod Columns
 pub mod Counting
 pub mod Shapes
+pub mod Entries
+pub mod Once
