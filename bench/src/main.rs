@@ -1,5 +1,6 @@
 //! One line a piece of work: our time over that of plain Rust, both taken in this process in turns, the best of several rounds.
 mod field;
+mod stores;
 
 use std::time::Instant;
 
@@ -29,4 +30,5 @@ pub fn line(work: &str, against: &str, ratio: f64, bar: Option<f64>) {
 
 fn main() {
     field::run();
+    stores::run();
 }

@@ -23,6 +23,21 @@ unsafe extern "C" {
     fn spoonripple_row_check(k: u32, j: u32, s: u32, h: u32, w: u32, out: *mut u64, room: usize) -> u32;
     fn spoonripple_isi(k: u32, j: u32, s: u32, h: u32, w: u32, count: u32, esi: u32, out: *mut u64, room: usize) -> u32;
     fn spoonripple_tuple(k: u32, j: u32, s: u32, h: u32, w: u32, tables: *const u32, len: usize, isi: u32, out: *mut u64, room: usize) -> u32;
+    fn spoonripple_slab_with_zeros(store: *mut u8, len: usize, count: usize, t: u16) -> u32;
+    fn spoonripple_slab_locate(len: usize, count: usize, t: u16, order: *const u32, order_len: usize, i: usize, out: *mut u64, room: usize) -> u32;
+    fn spoonripple_slab_add_assign(store: *mut u8, len: usize, count: usize, t: u16, order: *const u32, order_len: usize, dest: usize, src: usize) -> u32;
+    fn spoonripple_slab_mulassign_scalar(store: *mut u8, len: usize, count: usize, t: u16, order: *const u32, order_len: usize, dest: usize, scalar: u8) -> u32;
+    fn spoonripple_slab_fma(store: *mut u8, len: usize, count: usize, t: u16, order: *const u32, order_len: usize, dest: usize, src: usize, scalar: u8) -> u32;
+    fn spoonripple_matrix_new(words: *mut u64, len: usize, height: usize, width: usize) -> u32;
+    fn spoonripple_matrix_set(words: *mut u64, len: usize, height: usize, width: usize, i: usize, j: usize, value: u8) -> u32;
+    fn spoonripple_matrix_get(words: *const u64, len: usize, height: usize, width: usize, i: usize, j: usize, out: *mut u64, room: usize) -> u32;
+    fn spoonripple_matrix_count_ones(words: *const u64, len: usize, height: usize, width: usize, i: usize, start: usize, end: usize, out: *mut u64, room: usize) -> u32;
+    fn spoonripple_matrix_get_ones_in_column(words: *const u64, len: usize, height: usize, width: usize, j: usize, start: usize, end: usize, list: *mut u32, list_len: usize, out: *mut u64, room: usize) -> u32;
+    fn spoonripple_matrix_query_non_zero_columns(words: *const u64, len: usize, height: usize, width: usize, i: usize, start: usize, list: *mut u32, list_len: usize, out: *mut u64, room: usize) -> u32;
+    fn spoonripple_matrix_swap_rows(words: *mut u64, len: usize, height: usize, width: usize, i: usize, j: usize) -> u32;
+    fn spoonripple_matrix_swap_columns(words: *mut u64, len: usize, height: usize, width: usize, i: usize, j: usize, start: usize) -> u32;
+    fn spoonripple_matrix_add_assign_rows(words: *mut u64, len: usize, height: usize, width: usize, dest: usize, src: usize) -> u32;
+    fn spoonripple_matrix_resize(words: *mut u64, len: usize, height: usize, width: usize, new_height: usize, new_width: usize) -> u32;
     fn spoonripple_run_add(dst: *mut u8, dst_len: usize, src: *const u8, src_len: usize) -> u32;
     fn spoonripple_run_scale(dst: *mut u8, dst_len: usize, c: u8) -> u32;
     fn spoonripple_run_fma(dst: *mut u8, dst_len: usize, src: *const u8, src_len: usize, c: u8) -> u32;
@@ -112,4 +127,82 @@ pub fn isi([k, j, s, h, w]: Row, count: u32, esi: u32, out: &mut [u64]) -> Answe
 
 pub fn tuple([k, j, s, h, w]: Row, tables: &[u32], isi: u32, out: &mut [u64]) -> Answer<()> {
     done(unsafe { spoonripple_tuple(k, j, s, h, w, tables.as_ptr(), tables.len(), isi, out.as_mut_ptr(), out.len()) })
+}
+
+/// The numbers of a slab: how many symbols, of how many bytes.
+#[derive(Clone, Copy, Debug)]
+pub struct Slab {
+    pub count: usize,
+    pub size: u16,
+}
+
+pub fn slab_with_zeros(store: &mut [u8], slab: Slab) -> Answer<()> {
+    done(unsafe { spoonripple_slab_with_zeros(store.as_mut_ptr(), store.len(), slab.count, slab.size) })
+}
+
+pub fn slab_locate(len: usize, slab: Slab, order: &[u32], i: usize, out: &mut [u64]) -> Answer<()> {
+    done(unsafe { spoonripple_slab_locate(len, slab.count, slab.size, order.as_ptr(), order.len(), i, out.as_mut_ptr(), out.len()) })
+}
+
+pub fn slab_add_assign(store: &mut [u8], slab: Slab, order: &[u32], dest: usize, src: usize) -> Answer<()> {
+    done(unsafe { spoonripple_slab_add_assign(store.as_mut_ptr(), store.len(), slab.count, slab.size, order.as_ptr(), order.len(), dest, src) })
+}
+
+pub fn slab_mulassign_scalar(store: &mut [u8], slab: Slab, order: &[u32], dest: usize, scalar: u8) -> Answer<()> {
+    done(unsafe { spoonripple_slab_mulassign_scalar(store.as_mut_ptr(), store.len(), slab.count, slab.size, order.as_ptr(), order.len(), dest, scalar) })
+}
+
+pub fn slab_fma(store: &mut [u8], slab: Slab, order: &[u32], dest: usize, src: usize, scalar: u8) -> Answer<()> {
+    done(unsafe { spoonripple_slab_fma(store.as_mut_ptr(), store.len(), slab.count, slab.size, order.as_ptr(), order.len(), dest, src, scalar) })
+}
+
+/// The numbers of a matrix: how many rows and columns.
+#[derive(Clone, Copy, Debug)]
+pub struct Shape {
+    pub height: usize,
+    pub width: usize,
+}
+
+pub fn matrix_new(words: &mut [u64], m: Shape) -> Answer<()> {
+    done(unsafe { spoonripple_matrix_new(words.as_mut_ptr(), words.len(), m.height, m.width) })
+}
+
+pub fn matrix_set(words: &mut [u64], m: Shape, i: usize, j: usize, value: u8) -> Answer<()> {
+    done(unsafe { spoonripple_matrix_set(words.as_mut_ptr(), words.len(), m.height, m.width, i, j, value) })
+}
+
+pub fn matrix_get(words: &[u64], m: Shape, i: usize, j: usize, out: &mut [u64]) -> Answer<()> {
+    done(unsafe { spoonripple_matrix_get(words.as_ptr(), words.len(), m.height, m.width, i, j, out.as_mut_ptr(), out.len()) })
+}
+
+pub fn matrix_count_ones(words: &[u64], m: Shape, i: usize, start: usize, end: usize, out: &mut [u64]) -> Answer<()> {
+    done(unsafe { spoonripple_matrix_count_ones(words.as_ptr(), words.len(), m.height, m.width, i, start, end, out.as_mut_ptr(), out.len()) })
+}
+
+pub fn matrix_get_ones_in_column(words: &[u64], m: Shape, j: usize, start: usize, end: usize, list: &mut [u32], out: &mut [u64]) -> Answer<()> {
+    done(unsafe {
+        spoonripple_matrix_get_ones_in_column(words.as_ptr(), words.len(), m.height, m.width, j, start, end, list.as_mut_ptr(), list.len(), out.as_mut_ptr(), out.len())
+    })
+}
+
+pub fn matrix_query_non_zero_columns(words: &[u64], m: Shape, i: usize, start: usize, list: &mut [u32], out: &mut [u64]) -> Answer<()> {
+    done(unsafe {
+        spoonripple_matrix_query_non_zero_columns(words.as_ptr(), words.len(), m.height, m.width, i, start, list.as_mut_ptr(), list.len(), out.as_mut_ptr(), out.len())
+    })
+}
+
+pub fn matrix_swap_rows(words: &mut [u64], m: Shape, i: usize, j: usize) -> Answer<()> {
+    done(unsafe { spoonripple_matrix_swap_rows(words.as_mut_ptr(), words.len(), m.height, m.width, i, j) })
+}
+
+pub fn matrix_swap_columns(words: &mut [u64], m: Shape, i: usize, j: usize, start: usize) -> Answer<()> {
+    done(unsafe { spoonripple_matrix_swap_columns(words.as_mut_ptr(), words.len(), m.height, m.width, i, j, start) })
+}
+
+pub fn matrix_add_assign_rows(words: &mut [u64], m: Shape, dest: usize, src: usize) -> Answer<()> {
+    done(unsafe { spoonripple_matrix_add_assign_rows(words.as_mut_ptr(), words.len(), m.height, m.width, dest, src) })
+}
+
+pub fn matrix_resize(words: &mut [u64], m: Shape, new: Shape) -> Answer<()> {
+    done(unsafe { spoonripple_matrix_resize(words.as_mut_ptr(), words.len(), m.height, m.width, new.height, new.width) })
 }

@@ -23,6 +23,11 @@ impl Random {
     pub fn below(&mut self, n: u64) -> u64 {
         self.word() % n
     }
+    /// A place below n most times, sometimes n or one more.
+    pub fn near(&mut self, n: usize) -> usize {
+        let past = if self.below(6) == 0 { 2 } else { u64::from(n == 0) };
+        self.below(n as u64 + past) as usize
+    }
     pub fn byte(&mut self) -> u8 {
         (self.word() >> 56) as u8
     }

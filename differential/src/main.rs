@@ -1,6 +1,8 @@
 //! `differential AREA [COUNT] [SEED]`: see the script `run` beside this folder.
 mod field;
 mod headers;
+mod matrix;
+mod slab;
 mod vectors;
 
 fn main() {
@@ -16,7 +18,8 @@ fn main() {
         eprintln!("usage: run AREA [COUNT] [SEED]");
         std::process::exit(2);
     };
-    let areas: [(&str, fn(u64, u64) -> bool); 2] = [("field", field::run), ("headers", headers::run)];
+    let areas: [(&str, fn(u64, u64) -> bool); 4] =
+        [("field", field::run), ("headers", headers::run), ("matrix", matrix::run), ("slab", slab::run)];
     let mut ran = false;
     let mut same = true;
     for (name, run) in areas {
