@@ -125,7 +125,7 @@ module _ (L T : ℕ) (S : System ℕ) where
     solved-bytes out b s = record {
       block = b;
       fits = bytes-of-fits out (s .fits);
-      only = λ C bC f. same-lists bC b (s .only (symbols T C) (fits-of-bytes f));
+      only = λ C bC f. (let same : C ≡ out = same-lists bC b (s .only (symbols T C) (fits-of-bytes f)) in cc);
     }
 
     pub open-bytes : Open octets L T (inOctets S) → OpenBytes L T S
