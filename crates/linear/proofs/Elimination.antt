@@ -8,6 +8,8 @@ use native.Mathlib.Nat.{pos-of-ne-zero}
 use native.Mathlib.Omega.{arith}
 use native.Mathlib.Decide.{ℕ-discrete}
 use lib.Bits.{xor-lt, xor-self, xor-zero-r}
+use lib.ListN.{length, getD, set}
+use lib.Seq.{getD-set-same, getD-set-other}
 use Rattle.field.specs.Octet.{plus, times, inverse}
 use Rattle.field.specs.Runs.{Written}
 use Rattle.field.proofs.Laws.{times-lt, times-zero, times-one, times-comm, inverse-times}
@@ -55,6 +57,10 @@ held-beyond {m = m} h sa sd fa fd = record {
   row-bytes = bytes-written (h .row-bytes) fa sa;
   symbol-bytes = bytes-written (h .symbol-bytes) fd sd;
 }
+
+-- the pivots stand in a list, and column q goes into place r
+pub next-pivot : {r : ℕ} (q : ℕ) (ps : List ℕ) → r < length ps → NextPivot r q (λ k. getD ps k 0) (λ k. getD (set ps r q) k 0)
+next-pivot {r} q ps h = record { old = λ k l. getD-set-other ps r k q 0 (λ e. omega arith); new = getD-set-same ps r q 0 h }
 
 -- ---- (a), (b): the held rows go off row m, one after the other
 

@@ -1,24 +1,26 @@
 -- What the elimination says of the system that it began with: a contradiction as soon as a row of zeros has a symbol that is not 0, and at the
 -- end solved, with the set, or open, with the shortfall.
 -- Assumes nothing.
-use mathlib.Core.Path.{_≡_, sym, ap, _∙_}
+use mathlib.Core.Path.{_≡_, refl, sym, ap, _∙_}
 use mathlib.Core.Logic.{_≢_}
 use mathlib.Core.List.{List}
-use Prim.Native.Nat.{ℕ, _+_, _-_, _*_, _≤_, _<_}
+use Prim.Native.Nat.{ℕ, zero, suc, _+_, _-_, _*_, _≤_, _<_}
 use native.Mathlib.Omega.{arith}
 use native.Mathlib.Decide.{ℕ-discrete, decLt}
 use lib.ListN.{length, take, getD, List·getD-eq-default}
 use lib.Seq.{getD-take, length-take-le, ext-getD}
 use Rattle.linear.specs.Field.{Field}
+use Rattle.linear.specs.Index.{cons}
 use Rattle.linear.specs.Total.{delta}
 use Rattle.linear.specs.System.{System, Symbols, Fits}
 use Rattle.linear.specs.Reduced.{Reduced}
 use Rattle.linear.specs.Octets.{octets, Octet, oct}
 use Rattle.linear.specs.Bytes.{Bytes, cell, Block, stored, OctetSymbols, inOctets, symbols, SolvedBytes, ContradictionBytes, OpenBytes, ShortfallBytes}
 use Rattle.linear.specs.Rows.{RowCopied, OnlyBelow}
-use Rattle.linear.specs.Elimination.{Holds, Held, Gathered}
+use Rattle.linear.specs.Elimination.{Holds, Held, Sifted, Gathered}
 use Rattle.linear.proofs.Field.{zero-mul}
 use Rattle.linear.proofs.Total.{total-vanish, delta-self, delta-other}
+use Rattle.linear.proofs.Kernel.{pigeon}
 use Rattle.linear.proofs.System.{fits-follows}
 use Rattle.linear.proofs.Reduced.{rank-le, shortfall, solved-by, two-fit}
 use Rattle.linear.proofs.Octets.{oct-zero, oct-one, oct-once}
@@ -113,6 +115,20 @@ module _ {M L T r : ℕ} {pivot : ℕ → ℕ} {a d : List ℕ} (held : Held L T
   -- and no place of the out store past the L symbols changes
   pub gather-only : {n : ℕ} {out out₁ : List ℕ} → n < r → RowCopied T (pivot n) n d out out₁ → OnlyBelow (L * T) out out₁
   gather-only {n} h s = only-row (pivot n) L (held .column n h) s
+
+-- a row that is 0 at every pivot and not 0 in column q leaves room for one more pivot
+pub room : {L T m r : ℕ} {pivot : ℕ → ℕ} {a d : List ℕ} (q : ℕ) → Sifted L T m r r pivot a d → q < L → cell L a m q ≢ 0 → r < L
+room {L} {T} {m} {r} {pivot} {a} q s hq nz = let h : suc r ≤ L = pigeon octets (suc r) L (cons q pivot) below once in omega arith
+  where
+    below : (k : ℕ) → k < suc r → cons q pivot k < L
+    below zero h = hq
+    below (suc k) h = s .held .column k (omega arith)
+
+    once : (i k : ℕ) → i < suc r → k < suc r → cons q pivot i ≡ cons q pivot k → i ≡ k
+    once zero zero hi hk e = refl
+    once zero (suc k) hi hk e = absurd (nz (ap (cell L a m) e ∙ s .gone k (omega arith)))
+    once (suc i) zero hi hk e = absurd (nz (ap (cell L a m) (sym e) ∙ s .gone i (omega arith)))
+    once (suc i) (suc k) hi hk e = ap suc (pivot-once (s .held) i k (omega arith) (omega arith) e)
 
 pub gather-none : (T : ℕ) (pivot : ℕ → ℕ) (d out : List ℕ) → Gathered T 0 pivot d out
 gather-none T pivot d out = record { at = λ k h. absurd (omega arith) }

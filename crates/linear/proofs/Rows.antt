@@ -52,18 +52,25 @@ bytes-written {f} {xs} {ys} {at} {n} b small s x = go (decLt x at) (decLt x (at 
         let b : f (x - at) < 256 = small (x - at) (omega arith) in
         rw (← e, v) b
 
--- ---- a factor 0 adds nothing, a factor 1 adds the row, and 0 and a row is the row
+-- ---- a factor 0 adds nothing, a factor 1 adds the row or leaves it, and 0 and a row is the row
+
+-- the row is already what it should become
+pub row-same : {f : ℕ → ℕ} {w : ℕ} {xs : List ℕ} (i : ℕ) → ((c : ℕ) → c < w → cell w xs i c ≡ f c) → Written f xs xs (i * w) w
+row-same i e = record { size = refl; part = e; low = λ k h. refl; high = λ k h. refl }
 
 pub row-added-none : {w f : ℕ} (i k : ℕ) {xs : List ℕ} → f ≡ 0 → RowAdded w i k f xs xs
-row-added-none {w} {f} i k {xs} e = record {
-  size = refl;
-  part = λ c h. sym (ap (λ (x : ℕ). plus (cell w xs i c) (times x (cell w xs k c))) e ∙ ap (plus (cell w xs i c)) (zero-times (cell w xs k c)) ∙ xor-zero-r (cell w xs i c));
-  low = λ k h. refl;
-  high = λ k h. refl;
-}
+row-added-none {w} {f} i k {xs} e =
+    row-same i (λ c h. sym (ap (λ (x : ℕ). plus (cell w xs i c) (times x (cell w xs k c))) e ∙ ap (plus (cell w xs i c)) (zero-times (cell w xs k c)) ∙ xor-zero-r (cell w xs i c)))
 
+pub row-times-one : {w f : ℕ} (i : ℕ) {xs : List ℕ} → Bytes xs → f ≡ 1 → RowTimes w i f xs xs
+row-times-one {w} {f} i {xs} b e = row-same i (λ c h. sym (ap (λ (x : ℕ). times x (cell w xs i c)) e ∙ one-times (cell w xs i c) (b _)))
+
+-- a sum of two rows, as a sum with the row times 1, and back
 pub row-added-once : {w : ℕ} (i k : ℕ) {xs ys : List ℕ} → Bytes xs → Written (λ c. plus (cell w xs i c) (cell w xs k c)) xs ys (i * w) w → RowAdded w i k 1 xs ys
 row-added-once {w} i k {xs} b s = written-as s (λ c h. ap (plus (cell w xs i c)) (sym (one-times (cell w xs k c) (b _))))
+
+pub row-once-added : {w : ℕ} (i k : ℕ) {xs ys : List ℕ} → Bytes xs → RowAdded w i k 1 xs ys → Written (λ c. plus (cell w xs i c) (cell w xs k c)) xs ys (i * w) w
+row-once-added {w} i k {xs} b s = written-as s (λ c h. ap (plus (cell w xs i c)) (one-times (cell w xs k c) (b _)))
 
 -- added to a row that is 0, a row is copied
 pub copied-by-adding : {w : ℕ} (i k : ℕ) {xs ys : List ℕ} → ((c : ℕ) → c < w → cell w xs i c ≡ 0) → Written (λ c. plus (cell w xs i c) (cell w xs k c)) xs ys (i * w) w → RowCopied w i k xs xs ys
