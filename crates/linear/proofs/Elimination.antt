@@ -137,6 +137,11 @@ module _ {L T m r : ℕ} {pivot : ℕ → ℕ} {a d : List ℕ} (s : Sifted L T 
     pub scale-keeps : Keeps (m + 1) L T a d a₁ d₁
     scale-keeps = keeps-scaled m x (cell L a m q) (omega arith) (times-comm (cell L a m q) x ∙ undoes) sa sd
 
+  -- it goes to place r, where there is 0, and leaves 0
+  pub settle-keeps : {a₁ d₁ a₂ d₂ : List ℕ} → r < m → RowCopied L r m a a a₁ → RowCopied T r m d d d₁ → RowCleared L m a₁ a₂ → RowCleared T m d₁ d₂ → Keeps (m + 1) L T a d a₂ d₂
+  settle-keeps below sa sd ua ud = keeps-moved r m (omega arith) (omega arith) (λ e. omega arith)
+      (λ c h. s .held .row-gone r (omega arith) below c h) (λ t h. s .held .symbol-gone r (omega arith) below t h) sa sd ua ud
+
   -- it stands in place r, with 1 in column q
   joining : {q : ℕ} {pivot₁ : ℕ → ℕ} (a₂ d₂ : List ℕ) → NextPivot r q pivot pivot₁ → q < L → cell L a₂ r q ≡ 1 → ((k : ℕ) → k < r → cell L a₂ r (pivot k) ≡ 0)
       → ((i : ℕ) → i < r → (c : ℕ) → c < L → cell L a₂ i c ≡ cell L a i c)
@@ -173,7 +178,7 @@ module _ {L T m r : ℕ} {pivot : ℕ → ℕ} {a d : List ℕ} (s : Sifted L T 
         (ap (λ (z : ℕ). cell L a z q) e ∙ one) (λ k h. ap (λ (z : ℕ). cell L a z (pivot k)) e ∙ s .gone k h) (λ i h c l. refl)
         (λ i h l. absurd (omega arith)) (λ i h l. absurd (omega arith)) (s .held .row-bytes) (s .held .symbol-bytes)
 
-    -- it goes there, where there is 0, and leaves 0
+    -- it went there, where there was 0, and left 0
     module _ {a₁ d₁ a₂ d₂ : List ℕ} (below : r < m) (sa : RowCopied L r m a a a₁) (sd : RowCopied T r m d d d₁) (ua : RowCleared L m a₁ a₂) (ud : RowCleared T m d₁ d₂) where
       at-place : (c : ℕ) → c < L → cell L a₂ r c ≡ cell L a m c
       at-place c h = row-other m ua r (λ e. omega arith) c h ∙ sa .part c h
@@ -193,10 +198,6 @@ module _ {L T m r : ℕ} {pivot : ℕ → ℕ} {a d : List ℕ} (s : Sifted L T 
           symbol : (i : ℕ) → r < i → i < m + 1 → (t : ℕ) → t < T → Dec (i ≡ m) → cell T d₂ i t ≡ 0
           symbol i h l t b (yes e) = ap (λ (z : ℕ). cell T d₂ z t) e ∙ ud .part t b
           symbol i h l t b (no n) = row-other m ud i n t b ∙ row-other r sd i (λ e. omega arith) t b ∙ s .held .symbol-gone i (omega arith) (omega arith) t b
-
-      pub settle-keeps : Keeps (m + 1) L T a d a₂ d₂
-      settle-keeps = keeps-moved r m (omega arith) (omega arith) (λ e. omega arith)
-          (λ c h. s .held .row-gone r (omega arith) below c h) (λ t h. s .held .symbol-gone r (omega arith) below t h) sa sd ua ud
 
 -- ---- and it goes off the rows that were held before, one after the other
 

@@ -80,6 +80,13 @@ copied-by-adding {w} i k {xs} z s = written-as s (λ c h. ap (λ (x : ℕ). plus
 pub cleared-by-adding : {w : ℕ} (i k : ℕ) {xs ys : List ℕ} → ((c : ℕ) → c < w → cell w xs k c ≡ cell w xs i c) → Written (λ c. plus (cell w xs i c) (cell w xs k c)) xs ys (i * w) w → RowCleared w i xs ys
 cleared-by-adding {w} i k {xs} e s = written-as s (λ c h. ap (plus (cell w xs i c)) (e c h) ∙ xor-self (cell w xs i c))
 
+-- row k added to row i, which is 0, and then row i to row k: row k went to place i and left 0
+pub moved-by-adding : {w : ℕ} (i k : ℕ) {xs ys zs : List ℕ} → i ≢ k → ((c : ℕ) → c < w → cell w xs i c ≡ 0)
+    → Written (λ c. plus (cell w xs i c) (cell w xs k c)) xs ys (i * w) w → Written (λ c. plus (cell w ys k c) (cell w ys i c)) ys zs (k * w) w → RowCopied w i k xs xs ys × RowCleared w k ys zs
+moved-by-adding {w} i k {xs} {ys} ne z s u =
+    let copied : RowCopied w i k xs xs ys = copied-by-adding i k z s in
+    (copied, cleared-by-adding k i (λ c h. copied .part c h ∙ sym (row-other i s k (λ e. ne (sym e)) c h)) u)
+
 -- ---- nothing changed past a place
 
 pub only : {n : ℕ} {xs ys : List ℕ} → length ys ≡ length xs → ((k : ℕ) → n ≤ k → getD ys k 0 ≡ getD xs k 0) → OnlyBelow n xs ys
