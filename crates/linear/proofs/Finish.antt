@@ -9,6 +9,7 @@ use native.Mathlib.Omega.{arith}
 use native.Mathlib.Decide.{ℕ-discrete, decLt}
 use lib.ListN.{length, take, getD, List·getD-eq-default}
 use lib.Seq.{getD-take, length-take-le, ext-getD}
+use Rattle.field.specs.Runs.{Written}
 use Rattle.linear.specs.Field.{Field}
 use Rattle.linear.specs.Index.{cons}
 use Rattle.linear.specs.Total.{delta}
@@ -17,7 +18,7 @@ use Rattle.linear.specs.Reduced.{Reduced}
 use Rattle.linear.specs.Octets.{octets, Octet, oct}
 use Rattle.linear.specs.Bytes.{Bytes, cell, Block, stored, OctetSymbols, inOctets, symbols, SolvedBytes, ContradictionBytes, OpenBytes, ShortfallBytes}
 use Rattle.linear.specs.Rows.{RowCopied, OnlyBelow}
-use Rattle.linear.specs.Elimination.{Holds, Held, Sifted, Gathered}
+use Rattle.linear.specs.Elimination.{Holds, Held, Sifted, Columns, Gathered}
 use Rattle.linear.proofs.Field.{zero-mul}
 use Rattle.linear.proofs.Total.{total-vanish, delta-self, delta-other}
 use Rattle.linear.proofs.Kernel.{pigeon}
@@ -103,18 +104,26 @@ module _ {M L T r : ℕ} {pivot : ℕ → ℕ} {a d : List ℕ} (held : Held L T
         block : Block L T (take (L * T) out)
         block = record { size = length-take-le (L * T) out long; bytes = λ i. go i (decLt i (L * T)) }
 
-  -- ---- the symbols go to their columns, one after the other
+-- ---- the symbols go to their columns, one after the other
 
-  pub gather-more : {n : ℕ} {out out₁ : List ℕ} → Gathered T n pivot d out → n < r → RowCopied T (pivot n) n d out out₁ → Gathered T (n + 1) pivot d out₁
-  gather-more {n} {out} {out₁} g h s = record { at = λ k l t q. go k l t q (ℕ-discrete k n) }
-    where
-      go : (k : ℕ) → k < n + 1 → (t : ℕ) → t < T → Dec (k ≡ n) → cell T out₁ (pivot k) t ≡ cell T d k t
-      go k l t q (yes e) = ap (λ (z : ℕ). cell T out₁ (pivot z) t) e ∙ s .part t q ∙ ap (λ (z : ℕ). cell T d z t) (sym e)
-      go k l t q (no m) = row-other (pivot n) s (pivot k) (λ e. m (pivot-once k n (omega arith) h e)) t q ∙ g .at k (omega arith) t q
+pub held-columns : {L T m r : ℕ} {pivot : ℕ → ℕ} {a d : List ℕ} → Held L T m r pivot a d → Columns L r pivot
+held-columns h = record { below = h .column; once = pivot-once h }
 
-  -- and no place of the out store past the L symbols changes
-  pub gather-only : {n : ℕ} {out out₁ : List ℕ} → n < r → RowCopied T (pivot n) n d out out₁ → OnlyBelow (L * T) out out₁
-  gather-only {n} h s = only-row (pivot n) L (held .column n h) s
+pub gather-none : (T : ℕ) (pivot : ℕ → ℕ) (d out : List ℕ) → Gathered T 0 pivot d out
+gather-none T pivot d out = record { at = λ k h. absurd (omega arith) }
+
+pub gather-more : {L T r n : ℕ} {pivot : ℕ → ℕ} {d out out₁ : List ℕ} → Columns L r pivot → n < r → Gathered T n pivot d out → RowCopied T (pivot n) n d out out₁ → Gathered T (n + 1) pivot d out₁
+gather-more {L} {T} {r} {n} {pivot} {d} {out} {out₁} columns h g s = record { at = λ k l t q. go k l t q (ℕ-discrete k n) }
+  where
+    go : (k : ℕ) → k < n + 1 → (t : ℕ) → t < T → Dec (k ≡ n) → cell T out₁ (pivot k) t ≡ cell T d k t
+    go k l t q (yes e) = ap (λ (z : ℕ). cell T out₁ (pivot z) t) e ∙ s .part t q ∙ ap (λ (z : ℕ). cell T d z t) (sym e)
+    go k l t q (no m) = row-other (pivot n) s (pivot k) (λ e. m (columns .once k n (omega arith) h e)) t q ∙ g .at k (omega arith) t q
+
+-- and no place of the out store past the L symbols changes
+pub gather-only : {L T r n : ℕ} {pivot f : ℕ → ℕ} {out out₁ : List ℕ} → Columns L r pivot → n < r → Written f out out₁ (pivot n * T) T → OnlyBelow (L * T) out out₁
+gather-only {L} {n = n} {pivot = pivot} columns h s = only-row (pivot n) L (columns .below n h) s
+
+-- ---- room
 
 -- a row that is 0 at every pivot and not 0 in column q leaves room for one more pivot
 pub room : {L T m r : ℕ} {pivot : ℕ → ℕ} {a d : List ℕ} (q : ℕ) → Sifted L T m r r pivot a d → q < L → cell L a m q ≢ 0 → r < L
@@ -129,9 +138,6 @@ room {L} {T} {m} {r} {pivot} {a} q s hq nz = let h : suc r ≤ L = pigeon octets
     once zero (suc k) hi hk e = absurd (nz (ap (cell L a m) e ∙ s .gone k (omega arith)))
     once (suc i) zero hi hk e = absurd (nz (ap (cell L a m) (sym e) ∙ s .gone i (omega arith)))
     once (suc i) (suc k) hi hk e = ap suc (pivot-once (s .held) i k (omega arith) (omega arith) e)
-
-pub gather-none : (T : ℕ) (pivot : ℕ → ℕ) (d out : List ℕ) → Gathered T 0 pivot d out
-gather-none T pivot d out = record { at = λ k h. absurd (omega arith) }
 
 -- solved settles the whole out store: the set in front, and what was there past it
 pub out-once : {L T : ℕ} {S : System ℕ} {out o₁ o₂ : List ℕ} → SolvedBytes L T S (take (L * T) o₁) → SolvedBytes L T S (take (L * T) o₂) → OnlyBelow (L * T) out o₁ → OnlyBelow (L * T) out o₂ → o₁ ≡ o₂
