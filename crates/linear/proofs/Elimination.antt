@@ -45,7 +45,8 @@ held-none L T pivot ba bd = record {
 }
 
 -- what happens to a row that is yet to be taken leaves the others as they are
-held-beyond : {L T m r : ℕ} {pivot f g : ℕ → ℕ} {a d a₁ d₁ : List ℕ} → Held L T m r pivot a d → Written f a a₁ (m * L) L → Written g d d₁ (m * T) T
+held-beyond : {L T m r : ℕ} {pivot f g : ℕ → ℕ} {a d a₁ d₁ : List ℕ} → Held L T m r pivot a d → Written f a a₁ (m * L) L
+    → Written g d d₁ (m * T) T
     → ((c : ℕ) → c < L → f c < 256) → ((t : ℕ) → t < T → g t < 256) → Held L T m r pivot a₁ d₁
 held-beyond {m = m} h sa sd fa fd = record {
   enough = h .enough;
@@ -69,7 +70,8 @@ sift-begin h = record { held = h; gone = λ k l. absurd (omega arith) }
 
 module _ {L T m r j : ℕ} {pivot : ℕ → ℕ} {a d : List ℕ} (s : Sifted L T m r j pivot a d) (hj : j < r) where
   -- held row j, times what row m has at its pivot
-  pub sift-row : {f : ℕ} {a₁ d₁ : List ℕ} → f ≡ cell L a m (pivot j) → RowAdded L m j f a a₁ → RowAdded T m j f d d₁ → Sifted L T m r (j + 1) pivot a₁ d₁
+  pub sift-row : {f : ℕ} {a₁ d₁ : List ℕ} → f ≡ cell L a m (pivot j) → RowAdded L m j f a a₁ → RowAdded T m j f d d₁
+      → Sifted L T m r (j + 1) pivot a₁ d₁
   sift-row {f} {a₁} {d₁} e sa sd = record {
     held = held-beyond (s .held) sa sd (λ c h. added-lt _ f _ (s .held .row-bytes _)) (λ t h. added-lt _ f _ (s .held .symbol-bytes _));
     gone = λ k h. go k h (ℕ-discrete k j);
@@ -83,7 +85,8 @@ module _ {L T m r j : ℕ} {pivot : ℕ → ℕ} {a d : List ℕ} (s : Sifted L 
           sa .part (pivot k) (s .held .column k (omega arith))
           ∙ nothing (cell L a m (pivot k)) f (cell L a j (pivot k)) (s .held .off j k hj (omega arith) (λ q. n (sym q))) ∙ s .gone k (omega arith)
 
-  pub sift-keeps : {f : ℕ} {a₁ d₁ : List ℕ} → f ≡ cell L a m (pivot j) → RowAdded L m j f a a₁ → RowAdded T m j f d d₁ → Keeps (m + 1) L T a d a₁ d₁
+  pub sift-keeps : {f : ℕ} {a₁ d₁ : List ℕ} → f ≡ cell L a m (pivot j) → RowAdded L m j f a a₁ → RowAdded T m j f d d₁
+      → Keeps (m + 1) L T a d a₁ d₁
   sift-keeps {f} e sa sd =
       let q = s .held .enough in
       keeps-added m j f (omega arith) (omega arith) (λ z. omega arith) sa sd
@@ -138,14 +141,17 @@ module _ {L T m r : ℕ} {pivot : ℕ → ℕ} {a d : List ℕ} (s : Sifted L T 
     scale-keeps = keeps-scaled m x (cell L a m q) (omega arith) (times-comm (cell L a m q) x ∙ undoes) sa sd
 
   -- it goes to place r, where there is 0, and leaves 0
-  pub settle-keeps : {a₁ d₁ a₂ d₂ : List ℕ} → r < m → RowCopied L r m a a a₁ → RowCopied T r m d d d₁ → RowCleared L m a₁ a₂ → RowCleared T m d₁ d₂ → Keeps (m + 1) L T a d a₂ d₂
+  pub settle-keeps : {a₁ d₁ a₂ d₂ : List ℕ} → r < m → RowCopied L r m a a a₁ → RowCopied T r m d d d₁ → RowCleared L m a₁ a₂
+      → RowCleared T m d₁ d₂ → Keeps (m + 1) L T a d a₂ d₂
   settle-keeps below sa sd ua ud = keeps-moved r m (omega arith) (omega arith) (λ e. omega arith)
       (λ c h. s .held .row-gone r (omega arith) below c h) (λ t h. s .held .symbol-gone r (omega arith) below t h) sa sd ua ud
 
   -- it stands in place r, with 1 in column q
-  joining : {q : ℕ} {pivot₁ : ℕ → ℕ} (a₂ d₂ : List ℕ) → NextPivot r q pivot pivot₁ → q < L → cell L a₂ r q ≡ 1 → ((k : ℕ) → k < r → cell L a₂ r (pivot k) ≡ 0)
+  joining : {q : ℕ} {pivot₁ : ℕ → ℕ} (a₂ d₂ : List ℕ) → NextPivot r q pivot pivot₁ → q < L → cell L a₂ r q ≡ 1
+      → ((k : ℕ) → k < r → cell L a₂ r (pivot k) ≡ 0)
       → ((i : ℕ) → i < r → (c : ℕ) → c < L → cell L a₂ i c ≡ cell L a i c)
-      → ((i : ℕ) → r < i → i < m + 1 → (c : ℕ) → c < L → cell L a₂ i c ≡ 0) → ((i : ℕ) → r < i → i < m + 1 → (t : ℕ) → t < T → cell T d₂ i t ≡ 0)
+      → ((i : ℕ) → r < i → i < m + 1 → (c : ℕ) → c < L → cell L a₂ i c ≡ 0)
+      → ((i : ℕ) → r < i → i < m + 1 → (t : ℕ) → t < T → cell T d₂ i t ≡ 0)
       → Bytes a₂ → Bytes d₂ → Joining L T m r 0 pivot₁ a₂ d₂
   joining {q} {pivot₁} a₂ d₂ p hq own off₂ same za zd ba bd = record {
     enough = s .held .enough;
@@ -202,7 +208,8 @@ module _ {L T m r : ℕ} {pivot : ℕ → ℕ} {a d : List ℕ} (s : Sifted L T 
 -- ---- and it goes off the rows that were held before, one after the other
 
 module _ {L T m r j : ℕ} {pivot : ℕ → ℕ} {a d : List ℕ} (s : Joining L T m r j pivot a d) (hj : j < r) where
-  pub join-row : {f : ℕ} {a₁ d₁ : List ℕ} → f ≡ cell L a j (pivot r) → RowAdded L j r f a a₁ → RowAdded T j r f d d₁ → Joining L T m r (j + 1) pivot a₁ d₁
+  pub join-row : {f : ℕ} {a₁ d₁ : List ℕ} → f ≡ cell L a j (pivot r) → RowAdded L j r f a a₁ → RowAdded T j r f d d₁
+      → Joining L T m r (j + 1) pivot a₁ d₁
   join-row {f} {a₁} {d₁} e sa sd = record {
     enough = s .enough;
     column = s .column;
@@ -233,7 +240,8 @@ module _ {L T m r j : ℕ} {pivot : ℕ → ℕ} {a d : List ℕ} (s : Joining L
           ∙ taken-off (cell L a j (pivot r)) f (cell L a r (pivot r)) (s .row-bytes _) e (s .one r (omega arith))
       gone′ i h (no n) = row-other j sa i n _ (s .column r (omega arith)) ∙ s .gone i (omega arith)
 
-  pub join-keeps : {f : ℕ} {a₁ d₁ : List ℕ} → f ≡ cell L a j (pivot r) → RowAdded L j r f a a₁ → RowAdded T j r f d d₁ → Keeps (m + 1) L T a d a₁ d₁
+  pub join-keeps : {f : ℕ} {a₁ d₁ : List ℕ} → f ≡ cell L a j (pivot r) → RowAdded L j r f a a₁ → RowAdded T j r f d d₁
+      → Keeps (m + 1) L T a d a₁ d₁
   join-keeps {f} e sa sd =
       let q = s .enough in
       keeps-added j r f (omega arith) (omega arith) (λ z. omega arith) sa sd

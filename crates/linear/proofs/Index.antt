@@ -53,13 +53,15 @@ find P d (suc n) = step (d zero) (find (λ i. P (suc i)) (λ i. d (suc i)) n)
     none h k zero l = h
     none h k (suc i) l = k i (omega arith)
 
-    step : Dec (P zero) → ((i : ℕ) × (i < n) × P (suc i)) ⊎ ((i : ℕ) → i < n → ¬ P (suc i)) → ((i : ℕ) × (i < suc n) × P i) ⊎ ((i : ℕ) → i < suc n → ¬ P i)
+    step : Dec (P zero) → ((i : ℕ) × (i < n) × P (suc i)) ⊎ ((i : ℕ) → i < n → ¬ P (suc i))
+        → ((i : ℕ) × (i < suc n) × P i) ⊎ ((i : ℕ) → i < suc n → ¬ P i)
     step (yes p) r = inl (zero, omega arith, p)
     step (no h) (inl t) = inl (suc (t .0), (let l : t .0 < n = t .1 in omega arith), t .2)
     step (no h) (inr k) = inr (none h k)
 
 -- a function out of one choice for each number below n
-pub choose : {X : Type 0} {Q : ℕ → X → Type 0} (n : ℕ) → X → ((i : ℕ) → i < n → (x : X) × Q i x) → (f : ℕ → X) × ((i : ℕ) → i < n → Q i (f i))
+pub choose : {X : Type 0} {Q : ℕ → X → Type 0} (n : ℕ) → X → ((i : ℕ) → i < n → (x : X) × Q i x)
+    → (f : ℕ → X) × ((i : ℕ) → i < n → Q i (f i))
 choose zero x h = ((λ _. x), λ i l. absurd (omega arith))
 choose {X} {Q} (suc n) x h = join (choose {Q = λ i. Q (suc i)} n x (λ i l. h (suc i) (omega arith)))
   where
