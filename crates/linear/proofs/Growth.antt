@@ -2,7 +2,7 @@
 -- in another order; and one equation more (E9).
 -- Assumes nothing.
 use mathlib.Core.Path.{_≡_, refl, sym, ap, _∙_}
-use mathlib.Core.Logic.{_⊎_, inl, inr}
+use mathlib.Core.Logic.{_≢_, _⊎_, inl, inr}
 use mathlib.Core.List.{List}
 use Prim.Native.Nat.{ℕ, suc, _+_, _-_, _≤_, _<_}
 use native.Mathlib.Omega.{arith}
@@ -16,6 +16,7 @@ use Rattle.linear.specs.Independent.{OneMore}
 use Rattle.linear.specs.System.{System, SameEquation, Included}
 use Rattle.linear.specs.Octets.{octets, oct}
 use Rattle.linear.specs.Bytes.{OctetSymbols, inOctets, cell, FitsBytes, SolvedBytes, ContradictionBytes, OpenBytes, ShortfallBytes, AnswerBytes, contradicted-bytes, settled-bytes, left-open-bytes, OneMoreBytes}
+use Rattle.linear.proofs.Independent.{most-more}
 use Rattle.linear.proofs.Answers.{shortfall-never-grows, shortfall-same, one-more, row-decides}
 use Rattle.linear.proofs.AnswersBytes.{answer-bytes}
 
@@ -159,3 +160,29 @@ module _ {L : ℕ} {S : System ℕ} where
       → ShortfallBytes L T S s → ShortfallBytes L T R t → ShortfallBytes L T Q u → t ≡ u
   row-decides-bytes {T} {R} {Q} {q} o o′ same x y z =
       row-decides octets L T (λ c. oct (R .coef q c)) (one-more-octets (R .coef q) (λ c l. refl) o) (one-more-octets (R .coef q) same o′) (x .lacks) (y .lacks) (z .lacks)
+
+-- ---- n equations more
+
+-- The rows of R are rows of S, and n others: the shortfall falls by n at most. So an open answer is not followed by solved after fewer
+-- equations than it says.
+pub shortfall-floor : {L T : ℕ} {S R : System ℕ} {s t : ℕ} (n : ℕ) (new : ℕ → ℕ)
+    → ((i : ℕ) → i < R .count → ((k : ℕ) × (k < S .count) × ((c : ℕ) → c < L → R .coef i c ≡ S .coef k c)) ⊎ ((k : ℕ) × (k < n) × (i ≡ new k)))
+    → ShortfallBytes L T S s → ShortfallBytes L T R t → s ≤ n + t
+shortfall-floor {L} {T} {S} {R} {s} {t} n new only x y =
+    let h : y .lacks .rank ≤ n + x .lacks .rank = most-more octets L (S .count) (R .count) n (x .lacks .rank) (y .lacks .rank) (inOctets S .coef) (inOctets R .coef)
+    (λ k. inOctets R .coef (new k)) (λ i l. which i (only i l)) (x .lacks .most) (y .lacks .most) in
+    omega (arith, x .lacks .less, y .lacks .less)
+  where
+    which : (i : ℕ) → ((k : ℕ) × (k < S .count) × ((c : ℕ) → c < L → R .coef i c ≡ S .coef k c)) ⊎ ((k : ℕ) × (k < n) × (i ≡ new k))
+        → ((k : ℕ) × (k < S .count) × ((c : Col L) → cut L (inOctets R .coef) i c ≡ cut L (inOctets S .coef) k c))
+        ⊎ ((k : ℕ) × (k < n) × ((c : Col L) → cut L (inOctets R .coef) i c ≡ cut L (λ j. inOctets R .coef (new j)) k c))
+    which i (inl (k, l, e)) = inl (k, l, λ c. ap oct (e (c .0) (c .1)))
+    which i (inr (k, l, e)) = inr (k, l, λ c. ap (λ (z : ℕ). oct (R .coef z (c .0))) e)
+
+-- one row with two symbols that differ
+pub twice-unequal : {L T : ℕ} {S : System ℕ} (i k t : ℕ) → i < S .count → k < S .count → t < T
+    → ((c : ℕ) → c < L → S .coef i c ≡ S .coef k c)
+    → S .byte i t ≢ S .byte k t → ContradictionBytes L T S
+twice-unequal {L} {T} {S} i k t hi hk ht same differ = record {
+  none = λ C b f. differ (sym (f .meets i hi t ht) ∙ sum-same L (λ c h. ap (λ (x : ℕ). times x (cell T C c t)) (same c h)) ∙ f .meets k hk t ht);
+}

@@ -2,15 +2,16 @@
 -- Assumes nothing.
 use mathlib.Core.Path.{_≡_, sym, ap, ap₂, subst, _∙_}
 use mathlib.Core.Logic.{_≢_, _⊎_, inl, inr}
-use Prim.Native.Nat.{ℕ, zero, suc, _≤_, _<_}
+use Prim.Native.Nat.{ℕ, zero, suc, _+_, _≤_, _<_}
 use native.Mathlib.Omega.{arith}
 use native.Mathlib.Decide.{ℕ-discrete}
 use Rattle.linear.specs.Field.{Field}
-use Rattle.linear.specs.Index.{cons, Col, cut}
+use Rattle.linear.specs.Index.{cons, ahead, Col, cut}
 use Rattle.linear.specs.Total.{total, delta}
 use Rattle.linear.specs.Span.{lin, InSpan, Within}
 use Rattle.linear.specs.Independent.{Independent, Dependent, Choice, MostIndependent, Basis, RowsOf, OneMore}
 use Rattle.linear.proofs.Field.{add-zero, zero-mul, add-mul, eq-of-add}
+use Rattle.linear.proofs.Index.{ahead-first, ahead-then}
 use Rattle.linear.proofs.Total.{total-ext, total-add, total-mul, delta-self, delta-other, total-delta}
 use Rattle.linear.proofs.Span.{span-member, span-eq, span-trans, within-trans}
 use Rattle.linear.proofs.Kernel.{Kernel, kernel, steinitz}
@@ -220,3 +221,35 @@ module _ (K : Field) where
                   all-in : Within K (suc t) (cut L (cons v chosen)) t (cut L chosen)
                   all-in zero h = span-trans K iv (base .spans)
                   all-in (suc k) h = span-member K t (cut L chosen) k (omega arith)
+
+  -- n rows more raise the number by n at most
+  pub most-more : (L M N n r s : ℕ) (A B v : ℕ → ℕ → F)
+      → ((i : ℕ) → i < N → ((k : ℕ) × (k < M) × ((c : Col L) → cut L B i c ≡ cut L A k c)) ⊎ ((k : ℕ) × (k < n) × ((c : Col L) → cut L B i c ≡ cut L v k c)))
+      → MostIndependent K M (cut L A) r → MostIndependent K N (cut L B) s → s ≤ n + r
+  most-more L M N n r s A B v only a b = go (basis L M A)
+    where
+      go : (t : ℕ) × Basis K M t (cut L A) → s ≤ n + r
+      go (t, base) =
+          let e : t ≡ r = most-unique (most-of-basis base) a in
+          let h : s ≤ n + t = steinitz K s (n + t) (λ k. cut L B (b .some .place k)) (cut L all) (b .some .free) (λ k l. inside (b .some .place k) (b .some .below k l)) in
+          omega arith
+        where
+          chosen : ℕ → ℕ → F
+          chosen k = A (base .choice .place k)
+
+          all : ℕ → ℕ → F
+          all = ahead n v chosen
+
+          new-in : (k : ℕ) → k < n → InSpan K (n + t) (cut L all) (cut L v k)
+          new-in k h = span-eq K (λ c. sym (ap (λ (w : ℕ → F). w (c .0)) (ahead-first n v chosen k h))) (span-member K (n + t) (cut L all) k (omega arith))
+
+          old-in : (k : ℕ) → k < t → InSpan K (n + t) (cut L all) (cut L chosen k)
+          old-in k h = span-eq K (λ c. sym (ap (λ (w : ℕ → F). w (c .0)) (ahead-then n v chosen k))) (span-member K (n + t) (cut L all) (n + k) (omega arith))
+
+          inside : (i : ℕ) → i < N → InSpan K (n + t) (cut L all) (cut L B i)
+          inside i h = which (only i h)
+            where
+              which : ((k : ℕ) × (k < M) × ((c : Col L) → cut L B i c ≡ cut L A k c)) ⊎ ((k : ℕ) × (k < n) × ((c : Col L) → cut L B i c ≡ cut L v k c))
+                  → InSpan K (n + t) (cut L all) (cut L B i)
+              which (inl (k, l, e)) = span-eq K e (span-trans K (base .spans k l) old-in)
+              which (inr (k, l, e)) = span-eq K e (new-in k l)
