@@ -74,7 +74,8 @@ module _ (K : Field) (L T : ℕ) where
           record { rank = r; most = m; less = omega (arith, a .less) }
 
   -- One more equation, whose row is v: the shortfall falls by one where v is in no combination of the rows, and else stays. Its symbol has no say.
-  pub one-more : {S R : System F} (v : ℕ → F) {s t : ℕ} → OneMore K L (S .count) (R .count) (S .coef) (R .coef) v → Shortfall K L T S s → Shortfall K L T R t
+  pub one-more : {S R : System F} (v : ℕ → F) {s t : ℕ} → OneMore K L (S .count) (R .count) (S .coef) (R .coef) v → Shortfall K L T S s
+      → Shortfall K L T R t
       → (InSpan K (S .count) (cut L (S .coef)) (λ c. v (c .0)) × (t ≡ s)) ⊎ ((¬ InSpan K (S .count) (cut L (S .coef)) (λ c. v (c .0))) × (suc t ≡ s))
   one-more {S} {R} v {s} {t} one a b = go (most-step K L (S .count) (R .count) (a .rank) (b .rank) (S .coef) (R .coef) v one (a .most) (b .most))
     where
@@ -83,7 +84,8 @@ module _ (K : Field) (L T : ℕ) where
       go (inl (i, e)) = inl (i, omega (arith, a .less, b .less))
       go (inr (n, e)) = inr (n, omega (arith, a .less, b .less))
 
-  pub row-decides : {S R Q : System F} (v : ℕ → F) {s t u : ℕ} → OneMore K L (S .count) (R .count) (S .coef) (R .coef) v → OneMore K L (S .count) (Q .count) (S .coef) (Q .coef) v
+  pub row-decides : {S R Q : System F} (v : ℕ → F) {s t u : ℕ} → OneMore K L (S .count) (R .count) (S .coef) (R .coef) v
+      → OneMore K L (S .count) (Q .count) (S .coef) (Q .coef) v
       → Shortfall K L T S s → Shortfall K L T R t → Shortfall K L T Q u → t ≡ u
   row-decides {S} {R} {Q} v {s} {t} {u} f g a b c = go (one-more v f a b) (one-more v g a c)
     where

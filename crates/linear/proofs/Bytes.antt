@@ -1,7 +1,7 @@
 -- The three answers over the octets are the three answers of lists of octets.
 -- Assumes nothing.
 use mathlib.Core.Path.{_≡_, refl, sym, ap, ap₂, _∙_}
-use mathlib.Core.List.{List, [], _∷_}
+use mathlib.Core.List.{List}
 use Prim.Native.Nat.{ℕ, zero, suc, _+_, _*_, _/_, _%_, _<_}
 use native.Mathlib.Nat.{mod-lt, mod-eq-of-lt, div-eq-of-lt, mul-add-div-right, mul-add-mod-self-right, div-lt-iff-lt-mul, div-add-mod', mul-le-mul-right, add-zero}
 use native.Mathlib.Omega.{arith}
@@ -16,7 +16,7 @@ use Rattle.linear.specs.Field.{Field}
 use Rattle.linear.specs.Total.{total}
 use Rattle.linear.specs.System.{System, Symbols, Same, Fits, Solved, Contradiction, Open}
 use Rattle.linear.specs.Octets.{octets, Octet, oct, value}
-use Rattle.linear.specs.Bytes.{cell, Block, OctetSymbols, inOctets, symbols, FitsBytes, SolvedBytes, ContradictionBytes, OpenBytes}
+use Rattle.linear.specs.Bytes.{cell, Block, OctetSymbols, inOctets, symbols, tabulate, pack, FitsBytes, SolvedBytes, ContradictionBytes, OpenBytes}
 use Rattle.linear.proofs.Total.{total-ext}
 use Rattle.linear.proofs.System.{same-sym, same-trans, fits-same}
 use Rattle.linear.proofs.Octets.{value-lt, oct-value, oct-once, oct-times, oct-sum}
@@ -52,15 +52,11 @@ by-cells P n w h x l =
     rw (div-add-mod' x w) at (h (x / w) (div-lt-iff-lt-mul pos .1 l) (x % w) (mod-lt x pos))
 
 -- two lists of n rows are equal by their entries
-pub ext-cell : (n w : ℕ) (a b : List ℕ) → length a ≡ n * w → length b ≡ n * w → ((i : ℕ) → i < n → (c : ℕ) → c < w → cell w a i c ≡ cell w b i c) → a ≡ b
+pub ext-cell : (n w : ℕ) (a b : List ℕ) → length a ≡ n * w → length b ≡ n * w
+    → ((i : ℕ) → i < n → (c : ℕ) → c < w → cell w a i c ≡ cell w b i c) → a ≡ b
 ext-cell n w a b ha hb h = ext-getD 0 a b (ha ∙ sym hb) (λ x l. by-cells (λ (y : ℕ). getD a y 0 ≡ getD b y 0) n w h x (omega arith))
 
 -- ---- symbols as a list
-
--- f 0, f 1, .., f (n - 1)
-pub tabulate : ℕ → (ℕ → ℕ) → List ℕ
-tabulate zero f = []
-tabulate (suc n) f = f zero ∷ tabulate n (λ i. f (suc i))
 
 pub length-tabulate : (n : ℕ) (f : ℕ → ℕ) → length (tabulate n f) ≡ n
 unfolding tabulate
@@ -72,9 +68,6 @@ unfolding tabulate
 getD-tabulate zero f i h = absurd (omega arith)
 getD-tabulate (suc n) f zero h = refl
 getD-tabulate (suc n) f (suc i) h = getD-tabulate n (λ i. f (suc i)) i (omega arith)
-
-pub pack : (L T : ℕ) → Symbols Octet → List ℕ
-pack L T C = tabulate (L * T) (λ x. value (C (x / T) (x % T)))
 
 cell-pack : (L T : ℕ) (C : Symbols Octet) (c t : ℕ) → c < L → t < T → cell T (pack L T C) c t ≡ value (C c t)
 unfolding pack
@@ -103,7 +96,8 @@ same-lists {L} {T} {C} {D} bC bD s = ext-cell L T C D (bC .size) (bD .size) (λ 
 -- ---- what fits, and the answers
 
 module _ (L T : ℕ) (S : System ℕ) where
-  row-sum : (C : List ℕ) (i t : ℕ) → oct (sum L (λ c. times (S .coef i c) (cell T C c t))) ≡ total octets L (λ c. oct (S .coef i c) ⊗ symbols T C c t)
+  row-sum : (C : List ℕ) (i t : ℕ)
+      → oct (sum L (λ c. times (S .coef i c) (cell T C c t))) ≡ total octets L (λ c. oct (S .coef i c) ⊗ symbols T C c t)
   row-sum C i t = oct-sum L (λ c. times (S .coef i c) (cell T C c t)) ∙ total-ext octets L (λ c l. oct-times (S .coef i c) (cell T C c t))
 
   pub fits-of-bytes : {C : List ℕ} → FitsBytes L T S C → Fits octets L T (inOctets S) (symbols T C)
@@ -125,7 +119,7 @@ module _ (L T : ℕ) (S : System ℕ) where
     solved-bytes out b s = record {
       block = b;
       fits = bytes-of-fits out (s .fits);
-      only = λ C bC f. same-lists bC b (s .only (symbols T C) (fits-of-bytes f));
+      only = λ C bC f. (let same : C ≡ out = same-lists bC b (s .only (symbols T C) (fits-of-bytes f)) in cc);
     }
 
     pub open-bytes : Open octets L T (inOctets S) → OpenBytes L T S

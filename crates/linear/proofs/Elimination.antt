@@ -8,6 +8,8 @@ use native.Mathlib.Nat.{pos-of-ne-zero}
 use native.Mathlib.Omega.{arith}
 use native.Mathlib.Decide.{ℕ-discrete}
 use lib.Bits.{xor-lt, xor-self, xor-zero-r}
+use lib.ListN.{length, getD, set}
+use lib.Seq.{getD-set-same, getD-set-other}
 use Rattle.field.specs.Octet.{plus, times, inverse}
 use Rattle.field.specs.Runs.{Written}
 use Rattle.field.proofs.Laws.{times-lt, times-zero, times-one, times-comm, inverse-times}
@@ -43,7 +45,8 @@ held-none L T pivot ba bd = record {
 }
 
 -- what happens to a row that is yet to be taken leaves the others as they are
-held-beyond : {L T m r : ℕ} {pivot f g : ℕ → ℕ} {a d a₁ d₁ : List ℕ} → Held L T m r pivot a d → Written f a a₁ (m * L) L → Written g d d₁ (m * T) T
+held-beyond : {L T m r : ℕ} {pivot f g : ℕ → ℕ} {a d a₁ d₁ : List ℕ} → Held L T m r pivot a d → Written f a a₁ (m * L) L
+    → Written g d d₁ (m * T) T
     → ((c : ℕ) → c < L → f c < 256) → ((t : ℕ) → t < T → g t < 256) → Held L T m r pivot a₁ d₁
 held-beyond {m = m} h sa sd fa fd = record {
   enough = h .enough;
@@ -56,6 +59,10 @@ held-beyond {m = m} h sa sd fa fd = record {
   symbol-bytes = bytes-written (h .symbol-bytes) fd sd;
 }
 
+-- the pivots stand in a list, and column q goes into place r
+pub next-pivot : {r : ℕ} (q : ℕ) (ps : List ℕ) → r < length ps → NextPivot r q (λ k. getD ps k 0) (λ k. getD (set ps r q) k 0)
+next-pivot {r} q ps h = record { old = λ k l. getD-set-other ps r k q 0 (λ e. omega arith); new = getD-set-same ps r q 0 h }
+
 -- ---- (a), (b): the held rows go off row m, one after the other
 
 pub sift-begin : {L T m r : ℕ} {pivot : ℕ → ℕ} {a d : List ℕ} → Held L T m r pivot a d → Sifted L T m r 0 pivot a d
@@ -63,7 +70,8 @@ sift-begin h = record { held = h; gone = λ k l. absurd (omega arith) }
 
 module _ {L T m r j : ℕ} {pivot : ℕ → ℕ} {a d : List ℕ} (s : Sifted L T m r j pivot a d) (hj : j < r) where
   -- held row j, times what row m has at its pivot
-  pub sift-row : {f : ℕ} {a₁ d₁ : List ℕ} → f ≡ cell L a m (pivot j) → RowAdded L m j f a a₁ → RowAdded T m j f d d₁ → Sifted L T m r (j + 1) pivot a₁ d₁
+  pub sift-row : {f : ℕ} {a₁ d₁ : List ℕ} → f ≡ cell L a m (pivot j) → RowAdded L m j f a a₁ → RowAdded T m j f d d₁
+      → Sifted L T m r (j + 1) pivot a₁ d₁
   sift-row {f} {a₁} {d₁} e sa sd = record {
     held = held-beyond (s .held) sa sd (λ c h. added-lt _ f _ (s .held .row-bytes _)) (λ t h. added-lt _ f _ (s .held .symbol-bytes _));
     gone = λ k h. go k h (ℕ-discrete k j);
@@ -77,7 +85,8 @@ module _ {L T m r j : ℕ} {pivot : ℕ → ℕ} {a d : List ℕ} (s : Sifted L 
           sa .part (pivot k) (s .held .column k (omega arith))
           ∙ nothing (cell L a m (pivot k)) f (cell L a j (pivot k)) (s .held .off j k hj (omega arith) (λ q. n (sym q))) ∙ s .gone k (omega arith)
 
-  pub sift-keeps : {f : ℕ} {a₁ d₁ : List ℕ} → f ≡ cell L a m (pivot j) → RowAdded L m j f a a₁ → RowAdded T m j f d d₁ → Keeps (m + 1) L T a d a₁ d₁
+  pub sift-keeps : {f : ℕ} {a₁ d₁ : List ℕ} → f ≡ cell L a m (pivot j) → RowAdded L m j f a a₁ → RowAdded T m j f d d₁
+      → Keeps (m + 1) L T a d a₁ d₁
   sift-keeps {f} e sa sd =
       let q = s .held .enough in
       keeps-added m j f (omega arith) (omega arith) (λ z. omega arith) sa sd
@@ -131,10 +140,18 @@ module _ {L T m r : ℕ} {pivot : ℕ → ℕ} {a d : List ℕ} (s : Sifted L T 
     pub scale-keeps : Keeps (m + 1) L T a d a₁ d₁
     scale-keeps = keeps-scaled m x (cell L a m q) (omega arith) (times-comm (cell L a m q) x ∙ undoes) sa sd
 
+  -- it goes to place r, where there is 0, and leaves 0
+  pub settle-keeps : {a₁ d₁ a₂ d₂ : List ℕ} → r < m → RowCopied L r m a a a₁ → RowCopied T r m d d d₁ → RowCleared L m a₁ a₂
+      → RowCleared T m d₁ d₂ → Keeps (m + 1) L T a d a₂ d₂
+  settle-keeps below sa sd ua ud = keeps-moved r m (omega arith) (omega arith) (λ e. omega arith)
+      (λ c h. s .held .row-gone r (omega arith) below c h) (λ t h. s .held .symbol-gone r (omega arith) below t h) sa sd ua ud
+
   -- it stands in place r, with 1 in column q
-  joining : {q : ℕ} {pivot₁ : ℕ → ℕ} (a₂ d₂ : List ℕ) → NextPivot r q pivot pivot₁ → q < L → cell L a₂ r q ≡ 1 → ((k : ℕ) → k < r → cell L a₂ r (pivot k) ≡ 0)
+  joining : {q : ℕ} {pivot₁ : ℕ → ℕ} (a₂ d₂ : List ℕ) → NextPivot r q pivot pivot₁ → q < L → cell L a₂ r q ≡ 1
+      → ((k : ℕ) → k < r → cell L a₂ r (pivot k) ≡ 0)
       → ((i : ℕ) → i < r → (c : ℕ) → c < L → cell L a₂ i c ≡ cell L a i c)
-      → ((i : ℕ) → r < i → i < m + 1 → (c : ℕ) → c < L → cell L a₂ i c ≡ 0) → ((i : ℕ) → r < i → i < m + 1 → (t : ℕ) → t < T → cell T d₂ i t ≡ 0)
+      → ((i : ℕ) → r < i → i < m + 1 → (c : ℕ) → c < L → cell L a₂ i c ≡ 0)
+      → ((i : ℕ) → r < i → i < m + 1 → (t : ℕ) → t < T → cell T d₂ i t ≡ 0)
       → Bytes a₂ → Bytes d₂ → Joining L T m r 0 pivot₁ a₂ d₂
   joining {q} {pivot₁} a₂ d₂ p hq own off₂ same za zd ba bd = record {
     enough = s .held .enough;
@@ -167,7 +184,7 @@ module _ {L T m r : ℕ} {pivot : ℕ → ℕ} {a d : List ℕ} (s : Sifted L T 
         (ap (λ (z : ℕ). cell L a z q) e ∙ one) (λ k h. ap (λ (z : ℕ). cell L a z (pivot k)) e ∙ s .gone k h) (λ i h c l. refl)
         (λ i h l. absurd (omega arith)) (λ i h l. absurd (omega arith)) (s .held .row-bytes) (s .held .symbol-bytes)
 
-    -- it goes there, where there is 0, and leaves 0
+    -- it went there, where there was 0, and left 0
     module _ {a₁ d₁ a₂ d₂ : List ℕ} (below : r < m) (sa : RowCopied L r m a a a₁) (sd : RowCopied T r m d d d₁) (ua : RowCleared L m a₁ a₂) (ud : RowCleared T m d₁ d₂) where
       at-place : (c : ℕ) → c < L → cell L a₂ r c ≡ cell L a m c
       at-place c h = row-other m ua r (λ e. omega arith) c h ∙ sa .part c h
@@ -188,14 +205,11 @@ module _ {L T m r : ℕ} {pivot : ℕ → ℕ} {a d : List ℕ} (s : Sifted L T 
           symbol i h l t b (yes e) = ap (λ (z : ℕ). cell T d₂ z t) e ∙ ud .part t b
           symbol i h l t b (no n) = row-other m ud i n t b ∙ row-other r sd i (λ e. omega arith) t b ∙ s .held .symbol-gone i (omega arith) (omega arith) t b
 
-      pub settle-keeps : Keeps (m + 1) L T a d a₂ d₂
-      settle-keeps = keeps-moved r m (omega arith) (omega arith) (λ e. omega arith)
-          (λ c h. s .held .row-gone r (omega arith) below c h) (λ t h. s .held .symbol-gone r (omega arith) below t h) sa sd ua ud
-
 -- ---- and it goes off the rows that were held before, one after the other
 
 module _ {L T m r j : ℕ} {pivot : ℕ → ℕ} {a d : List ℕ} (s : Joining L T m r j pivot a d) (hj : j < r) where
-  pub join-row : {f : ℕ} {a₁ d₁ : List ℕ} → f ≡ cell L a j (pivot r) → RowAdded L j r f a a₁ → RowAdded T j r f d d₁ → Joining L T m r (j + 1) pivot a₁ d₁
+  pub join-row : {f : ℕ} {a₁ d₁ : List ℕ} → f ≡ cell L a j (pivot r) → RowAdded L j r f a a₁ → RowAdded T j r f d d₁
+      → Joining L T m r (j + 1) pivot a₁ d₁
   join-row {f} {a₁} {d₁} e sa sd = record {
     enough = s .enough;
     column = s .column;
@@ -226,7 +240,8 @@ module _ {L T m r j : ℕ} {pivot : ℕ → ℕ} {a d : List ℕ} (s : Joining L
           ∙ taken-off (cell L a j (pivot r)) f (cell L a r (pivot r)) (s .row-bytes _) e (s .one r (omega arith))
       gone′ i h (no n) = row-other j sa i n _ (s .column r (omega arith)) ∙ s .gone i (omega arith)
 
-  pub join-keeps : {f : ℕ} {a₁ d₁ : List ℕ} → f ≡ cell L a j (pivot r) → RowAdded L j r f a a₁ → RowAdded T j r f d d₁ → Keeps (m + 1) L T a d a₁ d₁
+  pub join-keeps : {f : ℕ} {a₁ d₁ : List ℕ} → f ≡ cell L a j (pivot r) → RowAdded L j r f a a₁ → RowAdded T j r f d d₁
+      → Keeps (m + 1) L T a d a₁ d₁
   join-keeps {f} e sa sd =
       let q = s .enough in
       keeps-added j r f (omega arith) (omega arith) (λ z. omega arith) sa sd

@@ -153,7 +153,8 @@ module _ (K : Field) where
     abbrev Left : {r : ℕ} → State L T S r → ℕ → Type 0
     Left {r} s i = (r ≤ i) × ((c : ℕ) × (c < L) × (s .coef i c ≢ 𝟘))
 
-    left? : {r : ℕ} (s : State L T S r) (i : ℕ) → Dec (r ≤ i) → ((c : ℕ) × (c < L) × (s .coef i c ≢ 𝟘)) ⊎ ((c : ℕ) → c < L → ¬ (s .coef i c ≢ 𝟘)) → Dec (Left s i)
+    left? : {r : ℕ} (s : State L T S r) (i : ℕ) → Dec (r ≤ i)
+        → ((c : ℕ) × (c < L) × (s .coef i c ≢ 𝟘)) ⊎ ((c : ℕ) → c < L → ¬ (s .coef i c ≢ 𝟘)) → Dec (Left s i)
     left? s i (yes a) (inl b) = yes (a, b)
     left? s i (yes a) (inr b) = no (λ p. b (p .1 .0) (p .1 .1) (p .1 .2))
     left? s i (no a) d = no (λ p. a (p .0))

@@ -1,36 +1,40 @@
 -- What the elimination says of the system that it began with: a contradiction as soon as a row of zeros has a symbol that is not 0, and at the
 -- end solved, with the set, or open, with the shortfall.
 -- Assumes nothing.
-use mathlib.Core.Path.{_≡_, sym, ap, _∙_}
+use mathlib.Core.Path.{_≡_, refl, sym, ap, _∙_}
 use mathlib.Core.Logic.{_≢_}
 use mathlib.Core.List.{List}
-use Prim.Native.Nat.{ℕ, _+_, _-_, _*_, _≤_, _<_}
+use Prim.Native.Nat.{ℕ, zero, suc, _+_, _-_, _*_, _≤_, _<_}
 use native.Mathlib.Omega.{arith}
 use native.Mathlib.Decide.{ℕ-discrete, decLt}
 use lib.ListN.{length, take, getD, List·getD-eq-default}
 use lib.Seq.{getD-take, length-take-le, ext-getD}
+use Rattle.field.specs.Runs.{Written}
 use Rattle.linear.specs.Field.{Field}
+use Rattle.linear.specs.Index.{cons}
 use Rattle.linear.specs.Total.{delta}
 use Rattle.linear.specs.System.{System, Symbols, Fits}
 use Rattle.linear.specs.Reduced.{Reduced}
 use Rattle.linear.specs.Octets.{octets, Octet, oct}
 use Rattle.linear.specs.Bytes.{Bytes, cell, Block, stored, OctetSymbols, inOctets, symbols, SolvedBytes, ContradictionBytes, OpenBytes, ShortfallBytes}
 use Rattle.linear.specs.Rows.{RowCopied, OnlyBelow}
-use Rattle.linear.specs.Elimination.{Holds, Held, Gathered}
+use Rattle.linear.specs.Elimination.{Holds, Held, Sifted, Columns, Gathered}
 use Rattle.linear.proofs.Field.{zero-mul}
 use Rattle.linear.proofs.Total.{total-vanish, delta-self, delta-other}
+use Rattle.linear.proofs.Kernel.{pigeon}
 use Rattle.linear.proofs.System.{fits-follows}
 use Rattle.linear.proofs.Reduced.{rank-le, shortfall, solved-by, two-fit}
 use Rattle.linear.proofs.Octets.{oct-zero, oct-one, oct-once}
 use Rattle.linear.proofs.Bytes.{cell-lt, contradiction-bytes, solved-bytes, open-bytes}
-use Rattle.linear.proofs.Octetwise.{solved-bytes-once}
+use Rattle.linear.proofs.AnswersBytes.{solved-bytes-once}
 use Rattle.linear.proofs.Rows.{row-other, only-row, only-past}
 open Field octets using (_⊗_, 𝟘)
 
 infixl 70 _⊗_
 -- ---- (d): a row of zeros whose symbol is not 0, whatever rows are yet to be taken
 
-pub clash : {M L T : ℕ} {S : System ℕ} {a d : List ℕ} (m t : ℕ) → Holds M L T S a d → Bytes d → m < M → t < T → ((c : ℕ) → c < L → cell L a m c ≡ 0) → cell T d m t ≢ 0 → ContradictionBytes L T S
+pub clash : {M L T : ℕ} {S : System ℕ} {a d : List ℕ} (m t : ℕ) → Holds M L T S a d → Bytes d → m < M → t < T
+    → ((c : ℕ) → c < L → cell L a m c ≡ 0) → cell T d m t ≢ 0 → ContradictionBytes L T S
 clash {M} {L} {T} {S} {a} {d} m t h bd hm ht z nz =
     contradiction-bytes L T S (record { none = λ C f. nz (zero-byte C (fits-follows octets L T (h .to) f)) })
   where
@@ -41,7 +45,8 @@ clash {M} {L} {T} {S} {a} {d} m t h bd hm ht z nz =
         ∙ sym oct-zero)
 
 -- the same, of the place x of the store
-pub clash-at : {M L T : ℕ} {S : System ℕ} {a d : List ℕ} (m x : ℕ) → Holds M L T S a d → Bytes d → m < M → m * T ≤ x → x < m * T + T → ((c : ℕ) → c < L → cell L a m c ≡ 0) → getD d x 0 ≢ 0
+pub clash-at : {M L T : ℕ} {S : System ℕ} {a d : List ℕ} (m x : ℕ) → Holds M L T S a d → Bytes d → m < M → m * T ≤ x → x < m * T + T
+    → ((c : ℕ) → c < L → cell L a m c ≡ 0) → getD d x 0 ≢ 0
     → ContradictionBytes L T S
 clash-at {T = T} {d = d} m x h bd hm lo hi z nz =
     let e : m * T + (x - m * T) ≡ x = omega arith in
@@ -88,7 +93,8 @@ module _ {M L T r : ℕ} {pivot : ℕ → ℕ} {a d : List ℕ} (held : Held L T
     answer-open small pos h = open-bytes L T S small (two-fit octets L T (inOctets S) end r reduced (holds .to) (holds .back) clean h pos)
 
     -- as many held as columns: the set has the symbol of held row k in the column of its pivot
-    pub answer-solved : (out : List ℕ) → OctetSymbols T S → Bytes out → L * T ≤ length out → r ≡ L → Gathered T r pivot d out → SolvedBytes L T S (take (L * T) out)
+    pub answer-solved : (out : List ℕ) → OctetSymbols T S → Bytes out → L * T ≤ length out → r ≡ L → Gathered T r pivot d out
+        → SolvedBytes L T S (take (L * T) out)
     unfolding reduced
     answer-solved out small bo long e g = solved-bytes L T S small (take (L * T) out) block
         (solved-by octets L T (inOctets S) end r reduced (holds .to) (holds .back) clean e (symbols T (take (L * T) out))
@@ -101,24 +107,46 @@ module _ {M L T r : ℕ} {pivot : ℕ → ℕ} {a d : List ℕ} (held : Held L T
         block : Block L T (take (L * T) out)
         block = record { size = length-take-le (L * T) out long; bytes = λ i. go i (decLt i (L * T)) }
 
-  -- ---- the symbols go to their columns, one after the other
+-- ---- the symbols go to their columns, one after the other
 
-  pub gather-more : {n : ℕ} {out out₁ : List ℕ} → Gathered T n pivot d out → n < r → RowCopied T (pivot n) n d out out₁ → Gathered T (n + 1) pivot d out₁
-  gather-more {n} {out} {out₁} g h s = record { at = λ k l t q. go k l t q (ℕ-discrete k n) }
-    where
-      go : (k : ℕ) → k < n + 1 → (t : ℕ) → t < T → Dec (k ≡ n) → cell T out₁ (pivot k) t ≡ cell T d k t
-      go k l t q (yes e) = ap (λ (z : ℕ). cell T out₁ (pivot z) t) e ∙ s .part t q ∙ ap (λ (z : ℕ). cell T d z t) (sym e)
-      go k l t q (no m) = row-other (pivot n) s (pivot k) (λ e. m (pivot-once k n (omega arith) h e)) t q ∙ g .at k (omega arith) t q
-
-  -- and no place of the out store past the L symbols changes
-  pub gather-only : {n : ℕ} {out out₁ : List ℕ} → n < r → RowCopied T (pivot n) n d out out₁ → OnlyBelow (L * T) out out₁
-  gather-only {n} h s = only-row (pivot n) L (held .column n h) s
+pub held-columns : {L T m r : ℕ} {pivot : ℕ → ℕ} {a d : List ℕ} → Held L T m r pivot a d → Columns L r pivot
+held-columns h = record { below = h .column; once = pivot-once h }
 
 pub gather-none : (T : ℕ) (pivot : ℕ → ℕ) (d out : List ℕ) → Gathered T 0 pivot d out
 gather-none T pivot d out = record { at = λ k h. absurd (omega arith) }
 
+pub gather-more : {L T r n : ℕ} {pivot : ℕ → ℕ} {d out out₁ : List ℕ} → Columns L r pivot → n < r → Gathered T n pivot d out
+    → RowCopied T (pivot n) n d out out₁ → Gathered T (n + 1) pivot d out₁
+gather-more {L} {T} {r} {n} {pivot} {d} {out} {out₁} columns h g s = record { at = λ k l t q. go k l t q (ℕ-discrete k n) }
+  where
+    go : (k : ℕ) → k < n + 1 → (t : ℕ) → t < T → Dec (k ≡ n) → cell T out₁ (pivot k) t ≡ cell T d k t
+    go k l t q (yes e) = ap (λ (z : ℕ). cell T out₁ (pivot z) t) e ∙ s .part t q ∙ ap (λ (z : ℕ). cell T d z t) (sym e)
+    go k l t q (no m) = row-other (pivot n) s (pivot k) (λ e. m (columns .once k n (omega arith) h e)) t q ∙ g .at k (omega arith) t q
+
+-- and no place of the out store past the L symbols changes
+pub gather-only : {L T r n : ℕ} {pivot f : ℕ → ℕ} {out out₁ : List ℕ} → Columns L r pivot → n < r → Written f out out₁ (pivot n * T) T
+    → OnlyBelow (L * T) out out₁
+gather-only {L} {n = n} {pivot = pivot} columns h s = only-row (pivot n) L (columns .below n h) s
+
+-- ---- room
+
+-- a row that is 0 at every pivot and not 0 in column q leaves room for one more pivot
+pub room : {L T m r : ℕ} {pivot : ℕ → ℕ} {a d : List ℕ} (q : ℕ) → Sifted L T m r r pivot a d → q < L → cell L a m q ≢ 0 → r < L
+room {L} {T} {m} {r} {pivot} {a} q s hq nz = let h : suc r ≤ L = pigeon octets (suc r) L (cons q pivot) below once in omega arith
+  where
+    below : (k : ℕ) → k < suc r → cons q pivot k < L
+    below zero h = hq
+    below (suc k) h = s .held .column k (omega arith)
+
+    once : (i k : ℕ) → i < suc r → k < suc r → cons q pivot i ≡ cons q pivot k → i ≡ k
+    once zero zero hi hk e = refl
+    once zero (suc k) hi hk e = absurd (nz (ap (cell L a m) e ∙ s .gone k (omega arith)))
+    once (suc i) zero hi hk e = absurd (nz (ap (cell L a m) (sym e) ∙ s .gone i (omega arith)))
+    once (suc i) (suc k) hi hk e = ap suc (pivot-once (s .held) i k (omega arith) (omega arith) e)
+
 -- solved settles the whole out store: the set in front, and what was there past it
-pub out-once : {L T : ℕ} {S : System ℕ} {out o₁ o₂ : List ℕ} → SolvedBytes L T S (take (L * T) o₁) → SolvedBytes L T S (take (L * T) o₂) → OnlyBelow (L * T) out o₁ → OnlyBelow (L * T) out o₂ → o₁ ≡ o₂
+pub out-once : {L T : ℕ} {S : System ℕ} {out o₁ o₂ : List ℕ} → SolvedBytes L T S (take (L * T) o₁) → SolvedBytes L T S (take (L * T) o₂)
+    → OnlyBelow (L * T) out o₁ → OnlyBelow (L * T) out o₂ → o₁ ≡ o₂
 out-once {L} {T} {S} {out} {o₁} {o₂} s u p q = ext-getD 0 o₁ o₂ (p .size ∙ sym (q .size)) (λ k _. go k (decLt k (L * T)))
   where
     same : take (L * T) o₁ ≡ take (L * T) o₂

@@ -2,7 +2,7 @@
 -- in another order; and one equation more (E9).
 -- Assumes nothing.
 use mathlib.Core.Path.{_≡_, refl, sym, ap, _∙_}
-use mathlib.Core.Logic.{_⊎_, inl, inr}
+use mathlib.Core.Logic.{_≢_, _⊎_, inl, inr}
 use mathlib.Core.List.{List}
 use Prim.Native.Nat.{ℕ, suc, _+_, _-_, _≤_, _<_}
 use native.Mathlib.Omega.{arith}
@@ -16,8 +16,9 @@ use Rattle.linear.specs.Independent.{OneMore}
 use Rattle.linear.specs.System.{System, SameEquation, Included}
 use Rattle.linear.specs.Octets.{octets, oct}
 use Rattle.linear.specs.Bytes.{OctetSymbols, inOctets, cell, FitsBytes, SolvedBytes, ContradictionBytes, OpenBytes, ShortfallBytes, AnswerBytes, contradicted-bytes, settled-bytes, left-open-bytes, OneMoreBytes}
+use Rattle.linear.proofs.Independent.{most-more}
 use Rattle.linear.proofs.Answers.{shortfall-never-grows, shortfall-same, one-more, row-decides}
-use Rattle.linear.proofs.Octetwise.{answer-bytes}
+use Rattle.linear.proofs.AnswersBytes.{answer-bytes}
 
 -- ---- equations of one system among those of another
 
@@ -27,18 +28,21 @@ included-refl L T S i h = (i, h, record { coefs = λ c l. refl; bytes = λ t l. 
 pub included-trans : {L T : ℕ} {S R Q : System ℕ} → Included L T S R → Included L T R Q → Included L T S Q
 included-trans {L} {T} {S} {R} {Q} f g i h = go (f i h)
   where
-    further : (k : ℕ) → SameEquation L T S i R k → (n : ℕ) × (n < Q .count) × SameEquation L T R k Q n → (n : ℕ) × (n < Q .count) × SameEquation L T S i Q n
+    further : (k : ℕ) → SameEquation L T S i R k → (n : ℕ) × (n < Q .count) × SameEquation L T R k Q n
+        → (n : ℕ) × (n < Q .count) × SameEquation L T S i Q n
     further k e (n, b, u) = (n, b, record { coefs = λ c q. e .coefs c q ∙ u .coefs c q; bytes = λ t q. e .bytes t q ∙ u .bytes t q })
 
     go : (k : ℕ) × (k < R .count) × SameEquation L T S i R k → (n : ℕ) × (n < Q .count) × SameEquation L T S i Q n
     go (k, l, e) = further k e (g k l)
 
 -- Constraints first, and then arrivals: the Z constraints are the same, and each arrival is among the second's.
-pub included-arrivals : (L T Z n m : ℕ) (S R : System ℕ) → S .count ≡ Z + n → R .count ≡ Z + m → ((i : ℕ) → i < Z → SameEquation L T S i R i)
+pub included-arrivals : (L T Z n m : ℕ) (S R : System ℕ) → S .count ≡ Z + n → R .count ≡ Z + m
+    → ((i : ℕ) → i < Z → SameEquation L T S i R i)
     → ((j : ℕ) → j < n → (k : ℕ) × (k < m) × SameEquation L T S (Z + j) R (Z + k)) → Included L T S R
 included-arrivals L T Z n m S R en em fixed among i h = go (decLt i Z)
   where
-    shift : (j : ℕ) → Z + j ≡ i → (k : ℕ) × (k < m) × SameEquation L T S (Z + j) R (Z + k) → (k : ℕ) × (k < R .count) × SameEquation L T S i R k
+    shift : (j : ℕ) → Z + j ≡ i → (k : ℕ) × (k < m) × SameEquation L T S (Z + j) R (Z + k)
+        → (k : ℕ) × (k < R .count) × SameEquation L T S i R k
     shift j q (k, l, s) = (Z + k, omega arith, (rw q at s))
 
     go : Dec (i < Z) → (k : ℕ) × (k < R .count) × SameEquation L T S i R k
@@ -66,7 +70,8 @@ module _ {L T : ℕ} {S R : System ℕ} (inc : Included L T S R) where
   pub fits-bytes-fewer : {C : List ℕ} → FitsBytes L T R C → FitsBytes L T S C
   fits-bytes-fewer {C} f = record { meets = λ i l t q. go i t q (inc i l) }
     where
-      go : (i t : ℕ) → t < T → (k : ℕ) × (k < R .count) × SameEquation L T S i R k → sum L (λ c. times (S .coef i c) (cell T C c t)) ≡ S .byte i t
+      go : (i t : ℕ) → t < T → (k : ℕ) × (k < R .count) × SameEquation L T S i R k
+          → sum L (λ c. times (S .coef i c) (cell T C c t)) ≡ S .byte i t
       go i t q (k, l, s) = sum-same L (λ c h. ap (λ (x : ℕ). times x (cell T C c t)) (s .coefs c h)) ∙ f .meets k l t q ∙ sym (s .bytes t q)
 
   -- a contradiction stays one
@@ -131,13 +136,15 @@ module _ {L : ℕ} {S : System ℕ} where
     only = λ i h. go i (o .only i h);
   }
     where
-      go : (i : ℕ) → ((k : ℕ) × (k < S .count) × ((c : ℕ) → c < L → R .coef i c ≡ S .coef k c)) ⊎ ((c : ℕ) → c < L → R .coef i c ≡ R .coef q c)
+      go : (i : ℕ)
+          → ((k : ℕ) × (k < S .count) × ((c : ℕ) → c < L → R .coef i c ≡ S .coef k c)) ⊎ ((c : ℕ) → c < L → R .coef i c ≡ R .coef q c)
           → ((k : ℕ) × (k < S .count) × ((c : Col L) → cut L (inOctets R .coef) i c ≡ cut L (inOctets S .coef) k c)) ⊎ ((c : Col L) → cut L (inOctets R .coef) i c ≡ oct (v (c .0)))
       go i (inl (k, l, e)) = inl (k, l, λ c. ap oct (e (c .0) (c .1)))
       go i (inr e) = inr (λ c. ap oct (e (c .0) (c .1) ∙ sym (same (c .0) (c .1))))
 
   -- lowers the shortfall by one or leaves it
-  pub one-more-falls : {T : ℕ} {R : System ℕ} {q s t : ℕ} → OneMoreBytes L S R q → ShortfallBytes L T S s → ShortfallBytes L T R t → (t ≡ s) ⊎ (suc t ≡ s)
+  pub one-more-falls : {T : ℕ} {R : System ℕ} {q s t : ℕ} → OneMoreBytes L S R q → ShortfallBytes L T S s → ShortfallBytes L T R t
+      → (t ≡ s) ⊎ (suc t ≡ s)
   one-more-falls {T} {R} {q} {s} {t} o x y = go (one-more octets L T (λ c. oct (R .coef q c)) (one-more-octets (R .coef q) (λ c l. refl) o) (x .lacks) (y .lacks))
     where
       In : Type 0
@@ -148,7 +155,34 @@ module _ {L : ℕ} {S : System ℕ} where
       go (inr (n, r)) = inr r
 
   -- and its row alone decides which: with the same row and any symbol the shortfall is the same
-  pub row-decides-bytes : {T : ℕ} {R Q : System ℕ} {q p s t u : ℕ} → OneMoreBytes L S R q → OneMoreBytes L S Q p → ((c : ℕ) → c < L → R .coef q c ≡ Q .coef p c)
+  pub row-decides-bytes : {T : ℕ} {R Q : System ℕ} {q p s t u : ℕ} → OneMoreBytes L S R q → OneMoreBytes L S Q p
+      → ((c : ℕ) → c < L → R .coef q c ≡ Q .coef p c)
       → ShortfallBytes L T S s → ShortfallBytes L T R t → ShortfallBytes L T Q u → t ≡ u
   row-decides-bytes {T} {R} {Q} {q} o o′ same x y z =
       row-decides octets L T (λ c. oct (R .coef q c)) (one-more-octets (R .coef q) (λ c l. refl) o) (one-more-octets (R .coef q) same o′) (x .lacks) (y .lacks) (z .lacks)
+
+-- ---- n equations more
+
+-- The rows of R are rows of S, and n others: the shortfall falls by n at most. So an open answer is not followed by solved after fewer
+-- equations than it says.
+pub shortfall-floor : {L T : ℕ} {S R : System ℕ} {s t : ℕ} (n : ℕ) (new : ℕ → ℕ)
+    → ((i : ℕ) → i < R .count → ((k : ℕ) × (k < S .count) × ((c : ℕ) → c < L → R .coef i c ≡ S .coef k c)) ⊎ ((k : ℕ) × (k < n) × (i ≡ new k)))
+    → ShortfallBytes L T S s → ShortfallBytes L T R t → s ≤ n + t
+shortfall-floor {L} {T} {S} {R} {s} {t} n new only x y =
+    let h : y .lacks .rank ≤ n + x .lacks .rank = most-more octets L (S .count) (R .count) n (x .lacks .rank) (y .lacks .rank) (inOctets S .coef) (inOctets R .coef)
+    (λ k. inOctets R .coef (new k)) (λ i l. which i (only i l)) (x .lacks .most) (y .lacks .most) in
+    omega (arith, x .lacks .less, y .lacks .less)
+  where
+    which : (i : ℕ) → ((k : ℕ) × (k < S .count) × ((c : ℕ) → c < L → R .coef i c ≡ S .coef k c)) ⊎ ((k : ℕ) × (k < n) × (i ≡ new k))
+        → ((k : ℕ) × (k < S .count) × ((c : Col L) → cut L (inOctets R .coef) i c ≡ cut L (inOctets S .coef) k c))
+        ⊎ ((k : ℕ) × (k < n) × ((c : Col L) → cut L (inOctets R .coef) i c ≡ cut L (λ j. inOctets R .coef (new j)) k c))
+    which i (inl (k, l, e)) = inl (k, l, λ c. ap oct (e (c .0) (c .1)))
+    which i (inr (k, l, e)) = inr (k, l, λ c. ap (λ (z : ℕ). oct (R .coef z (c .0))) e)
+
+-- one row with two symbols that differ
+pub twice-unequal : {L T : ℕ} {S : System ℕ} (i k t : ℕ) → i < S .count → k < S .count → t < T
+    → ((c : ℕ) → c < L → S .coef i c ≡ S .coef k c)
+    → S .byte i t ≢ S .byte k t → ContradictionBytes L T S
+twice-unequal {L} {T} {S} i k t hi hk ht same differ = record {
+  none = λ C b f. differ (sym (f .meets i hi t ht) ∙ sum-same L (λ c h. ap (λ (x : ℕ). times x (cell T C c t)) (same c h)) ∙ f .meets k hk t ht);
+}

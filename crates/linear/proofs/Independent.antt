@@ -2,15 +2,16 @@
 -- Assumes nothing.
 use mathlib.Core.Path.{_≡_, sym, ap, ap₂, subst, _∙_}
 use mathlib.Core.Logic.{_≢_, _⊎_, inl, inr}
-use Prim.Native.Nat.{ℕ, zero, suc, _≤_, _<_}
+use Prim.Native.Nat.{ℕ, zero, suc, _+_, _≤_, _<_}
 use native.Mathlib.Omega.{arith}
 use native.Mathlib.Decide.{ℕ-discrete}
 use Rattle.linear.specs.Field.{Field}
-use Rattle.linear.specs.Index.{cons, Col, cut}
+use Rattle.linear.specs.Index.{cons, ahead, Col, cut}
 use Rattle.linear.specs.Total.{total, delta}
 use Rattle.linear.specs.Span.{lin, InSpan, Within}
 use Rattle.linear.specs.Independent.{Independent, Dependent, Choice, MostIndependent, Basis, RowsOf, OneMore}
 use Rattle.linear.proofs.Field.{add-zero, zero-mul, add-mul, eq-of-add}
+use Rattle.linear.proofs.Index.{ahead-first, ahead-then}
 use Rattle.linear.proofs.Total.{total-ext, total-add, total-mul, delta-self, delta-other, total-delta}
 use Rattle.linear.proofs.Span.{span-member, span-eq, span-trans, within-trans}
 use Rattle.linear.proofs.Kernel.{Kernel, kernel, steinitz}
@@ -94,7 +95,8 @@ module _ (K : Field) where
     with-head : ℕ → ℕ
     with-head = cons zero after
 
-    basis-step : InSpan K r (λ k. cut L A (after k)) (cut L A zero) ⊎ Independent K (suc r) (λ k. cut L A (with-head k)) → (r : ℕ) × Basis K (suc M) r (cut L A)
+    basis-step : InSpan K r (λ k. cut L A (after k)) (cut L A zero) ⊎ Independent K (suc r) (λ k. cut L A (with-head k))
+        → (r : ℕ) × Basis K (suc M) r (cut L A)
     unfolding after with-head
     basis-step (inl s) = (
       r,
@@ -136,7 +138,8 @@ module _ (K : Field) where
   rank L M A = ((basis L M A) .0, most-of-basis ((basis L M A) .1))
 
   -- independent vectors that span what the rows span are as many as the most independent rows
-  pub most-of-span : (L M n : ℕ) (A : ℕ → ℕ → F) (u : ℕ → Col L → F) → Independent K n u → Within K n u M (cut L A) → Within K M (cut L A) n u → MostIndependent K M (cut L A) n
+  pub most-of-span : (L M n : ℕ) (A : ℕ → ℕ → F) (u : ℕ → Col L → F) → Independent K n u → Within K n u M (cut L A)
+      → Within K M (cut L A) n u → MostIndependent K M (cut L A) n
   most-of-span L M n A u ind up down = go (basis L M A)
     where
       go : (r : ℕ) × Basis K M r (cut L A) → MostIndependent K M (cut L A) n
@@ -155,7 +158,8 @@ module _ (K : Field) where
   rows-within {N = N} {u = u} f i h = span-eq K ((f i h) .2) (span-member K N u ((f i h) .0) ((f i h) .1))
 
   -- more rows, no smaller number
-  pub most-grows : (L M N r s : ℕ) (A B : ℕ → ℕ → F) → RowsOf K M (cut L A) N (cut L B) → MostIndependent K M (cut L A) r → MostIndependent K N (cut L B) s → r ≤ s
+  pub most-grows : (L M N r s : ℕ) (A B : ℕ → ℕ → F) → RowsOf K M (cut L A) N (cut L B) → MostIndependent K M (cut L A) r
+      → MostIndependent K N (cut L B) s → r ≤ s
   most-grows L M N r s A B sub a b = go (basis L N B)
     where
       go : (t : ℕ) × Basis K N t (cut L B) → r ≤ s
@@ -165,18 +169,21 @@ module _ (K : Field) where
           omega arith
 
   -- the same rows, in any order and number: the same number
-  pub most-same : (L M N r s : ℕ) (A B : ℕ → ℕ → F) → RowsOf K M (cut L A) N (cut L B) → RowsOf K N (cut L B) M (cut L A) → MostIndependent K M (cut L A) r → MostIndependent K N (cut L B) s → r ≡ s
+  pub most-same : (L M N r s : ℕ) (A B : ℕ → ℕ → F) → RowsOf K M (cut L A) N (cut L B) → RowsOf K N (cut L B) M (cut L A)
+      → MostIndependent K M (cut L A) r → MostIndependent K N (cut L B) s → r ≡ s
   most-same L M N r s A B f g a b =
       let p : r ≤ s = most-grows L M N r s A B f a b in
       let q : s ≤ r = most-grows L N M s r B A g b a in
       omega arith
 
   -- One more row raises the number by one or leaves it, and which of the two turns on the rows alone.
-  pub most-step : (L M N r s : ℕ) (A B : ℕ → ℕ → F) (v : ℕ → F) → OneMore K L M N A B v → MostIndependent K M (cut L A) r → MostIndependent K N (cut L B) s
+  pub most-step : (L M N r s : ℕ) (A B : ℕ → ℕ → F) (v : ℕ → F) → OneMore K L M N A B v → MostIndependent K M (cut L A) r
+      → MostIndependent K N (cut L B) s
       → (InSpan K M (cut L A) (λ c. v (c .0)) × (s ≡ r)) ⊎ ((¬ InSpan K M (cut L A) (λ c. v (c .0))) × (s ≡ suc r))
   most-step L M N r s A B v one a b = go (basis L M A)
     where
-      go : (t : ℕ) × Basis K M t (cut L A) → (InSpan K M (cut L A) (λ c. v (c .0)) × (s ≡ r)) ⊎ ((¬ InSpan K M (cut L A) (λ c. v (c .0))) × (s ≡ suc r))
+      go : (t : ℕ) × Basis K M t (cut L A)
+          → (InSpan K M (cut L A) (λ c. v (c .0)) × (s ≡ r)) ⊎ ((¬ InSpan K M (cut L A) (λ c. v (c .0))) × (s ≡ suc r))
       go (t, base) = branch (grow L t (cons v chosen) (base .choice .free))
         where
           chosen : ℕ → ℕ → F
@@ -198,7 +205,8 @@ module _ (K : Field) where
           down : {m : ℕ} {u : ℕ → Col L → F} → InSpan K m u (λ c. v (c .0)) → Within K t (cut L chosen) m u → Within K N (cut L B) m u
           down {m} {u} iv ic i h = pick (one .only i h)
             where
-              pick : ((k : ℕ) × (k < M) × ((c : Col L) → cut L B i c ≡ cut L A k c)) ⊎ ((c : Col L) → cut L B i c ≡ v (c .0)) → InSpan K m u (cut L B i)
+              pick : ((k : ℕ) × (k < M) × ((c : Col L) → cut L B i c ≡ cut L A k c)) ⊎ ((c : Col L) → cut L B i c ≡ v (c .0))
+                  → InSpan K m u (cut L B i)
               pick (inl (k, l, e)) = span-eq K e (span-trans K (base .spans k l) ic)
               pick (inr e) = span-eq K e iv
 
@@ -213,3 +221,35 @@ module _ (K : Field) where
                   all-in : Within K (suc t) (cut L (cons v chosen)) t (cut L chosen)
                   all-in zero h = span-trans K iv (base .spans)
                   all-in (suc k) h = span-member K t (cut L chosen) k (omega arith)
+
+  -- n rows more raise the number by n at most
+  pub most-more : (L M N n r s : ℕ) (A B v : ℕ → ℕ → F)
+      → ((i : ℕ) → i < N → ((k : ℕ) × (k < M) × ((c : Col L) → cut L B i c ≡ cut L A k c)) ⊎ ((k : ℕ) × (k < n) × ((c : Col L) → cut L B i c ≡ cut L v k c)))
+      → MostIndependent K M (cut L A) r → MostIndependent K N (cut L B) s → s ≤ n + r
+  most-more L M N n r s A B v only a b = go (basis L M A)
+    where
+      go : (t : ℕ) × Basis K M t (cut L A) → s ≤ n + r
+      go (t, base) =
+          let e : t ≡ r = most-unique (most-of-basis base) a in
+          let h : s ≤ n + t = steinitz K s (n + t) (λ k. cut L B (b .some .place k)) (cut L all) (b .some .free) (λ k l. inside (b .some .place k) (b .some .below k l)) in
+          omega arith
+        where
+          chosen : ℕ → ℕ → F
+          chosen k = A (base .choice .place k)
+
+          all : ℕ → ℕ → F
+          all = ahead n v chosen
+
+          new-in : (k : ℕ) → k < n → InSpan K (n + t) (cut L all) (cut L v k)
+          new-in k h = span-eq K (λ c. sym (ap (λ (w : ℕ → F). w (c .0)) (ahead-first n v chosen k h))) (span-member K (n + t) (cut L all) k (omega arith))
+
+          old-in : (k : ℕ) → k < t → InSpan K (n + t) (cut L all) (cut L chosen k)
+          old-in k h = span-eq K (λ c. sym (ap (λ (w : ℕ → F). w (c .0)) (ahead-then n v chosen k))) (span-member K (n + t) (cut L all) (n + k) (omega arith))
+
+          inside : (i : ℕ) → i < N → InSpan K (n + t) (cut L all) (cut L B i)
+          inside i h = which (only i h)
+            where
+              which : ((k : ℕ) × (k < M) × ((c : Col L) → cut L B i c ≡ cut L A k c)) ⊎ ((k : ℕ) × (k < n) × ((c : Col L) → cut L B i c ≡ cut L v k c))
+                  → InSpan K (n + t) (cut L all) (cut L B i)
+              which (inl (k, l, e)) = span-eq K e (span-trans K (base .spans k l) old-in)
+              which (inr (k, l, e)) = span-eq K e (new-in k l)

@@ -1,10 +1,11 @@
 -- Families indexed by numbers: what is where, and bounded search.
 -- Assumes nothing.
-use mathlib.Core.Path.{_≡_, refl, ap}
+use mathlib.Core.Path.{_≡_, refl, ap, _∙_}
 use mathlib.Core.Logic.{_≢_, _⊎_, inl, inr}
-use Prim.Native.Nat.{ℕ, zero, suc, _<_}
+use Prim.Native.Nat.{ℕ, zero, suc, _+_, _<_}
+use native.Mathlib.Nat.{zero-add, suc-add}
 use native.Mathlib.Omega.{arith}
-use Rattle.linear.specs.Index.{cons, put, update, skip}
+use Rattle.linear.specs.Index.{cons, put, update, ahead, skip}
 
 module _ {A : Type 0} where
   pub put-at : (p : ℕ) (x : A) (f : ℕ → A) → put p x f p ≡ x
@@ -20,6 +21,15 @@ module _ {A : Type 0} where
   update-other zero x f (suc i) h = refl
   update-other (suc p) x f zero h = refl
   update-other (suc p) x f (suc i) h = update-other p x (λ j. f (suc j)) i (λ e. h (ap suc e))
+
+pub ahead-first : {A : Type 0} (n : ℕ) (f g : ℕ → A) (i : ℕ) → i < n → ahead n f g i ≡ f i
+ahead-first zero f g i h = absurd (omega arith)
+ahead-first (suc n) f g zero h = refl
+ahead-first (suc n) f g (suc i) h = ahead-first n (λ j. f (suc j)) g i (omega arith)
+
+pub ahead-then : {A : Type 0} (n : ℕ) (f g : ℕ → A) (i : ℕ) → ahead n f g (n + i) ≡ g i
+ahead-then zero f g i = ap g (zero-add i)
+ahead-then (suc n) f g i = ap (ahead (suc n) f g) (suc-add n i) ∙ ahead-then n (λ j. f (suc j)) g i
 
 pub put-skip : {A : Type 0} (p : ℕ) (x : A) (f : ℕ → A) (i : ℕ) → put p x f (skip p i) ≡ f i
 put-skip zero x f i = refl
@@ -53,13 +63,15 @@ find P d (suc n) = step (d zero) (find (λ i. P (suc i)) (λ i. d (suc i)) n)
     none h k zero l = h
     none h k (suc i) l = k i (omega arith)
 
-    step : Dec (P zero) → ((i : ℕ) × (i < n) × P (suc i)) ⊎ ((i : ℕ) → i < n → ¬ P (suc i)) → ((i : ℕ) × (i < suc n) × P i) ⊎ ((i : ℕ) → i < suc n → ¬ P i)
+    step : Dec (P zero) → ((i : ℕ) × (i < n) × P (suc i)) ⊎ ((i : ℕ) → i < n → ¬ P (suc i))
+        → ((i : ℕ) × (i < suc n) × P i) ⊎ ((i : ℕ) → i < suc n → ¬ P i)
     step (yes p) r = inl (zero, omega arith, p)
     step (no h) (inl t) = inl (suc (t .0), (let l : t .0 < n = t .1 in omega arith), t .2)
     step (no h) (inr k) = inr (none h k)
 
 -- a function out of one choice for each number below n
-pub choose : {X : Type 0} {Q : ℕ → X → Type 0} (n : ℕ) → X → ((i : ℕ) → i < n → (x : X) × Q i x) → (f : ℕ → X) × ((i : ℕ) → i < n → Q i (f i))
+pub choose : {X : Type 0} {Q : ℕ → X → Type 0} (n : ℕ) → X → ((i : ℕ) → i < n → (x : X) × Q i x)
+    → (f : ℕ → X) × ((i : ℕ) → i < n → Q i (f i))
 choose zero x h = ((λ _. x), λ i l. absurd (omega arith))
 choose {X} {Q} (suc n) x h = join (choose {Q = λ i. Q (suc i)} n x (λ i l. h (suc i) (omega arith)))
   where

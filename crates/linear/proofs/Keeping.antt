@@ -35,7 +35,8 @@ pub keeps-trans : {n L T : ℕ} {a d a₁ d₁ a₂ d₂ : List ℕ} → Keeps n
 keeps-trans s u = record { says = same-span-trans octets (s .says) (u .says); rows = only-trans (s .rows) (u .rows); symbols = only-trans (s .symbols) (u .symbols) }
 
 -- g times row k went onto row i, in both stores
-pub keeps-added : {n L T : ℕ} {a d a₁ d₁ : List ℕ} (i k g : ℕ) → i < n → k < n → i ≢ k → RowAdded L i k g a a₁ → RowAdded T i k g d d₁ → Keeps n L T a d a₁ d₁
+pub keeps-added : {n L T : ℕ} {a d a₁ d₁ : List ℕ} (i k g : ℕ) → i < n → k < n → i ≢ k → RowAdded L i k g a a₁ → RowAdded T i k g d d₁
+    → Keeps n L T a d a₁ d₁
 keeps-added {n} {L} {T} {a} {d} {a₁} {d₁} i k g hi hk ne sa sd = record {
   says = added-same octets (added-both octets L T n (inOctets (stored n L T a d)) (inOctets (stored n L T a₁ d₁)) (row-added n i k g hk ne sa) (row-added n i k g hk ne sd));
   rows = only-row i n hi sa;
@@ -43,7 +44,8 @@ keeps-added {n} {L} {T} {a} {d} {a₁} {d₁} i k g hi hk ne sa sd = record {
 }
 
 -- row i was multiplied by x, which y undoes
-pub keeps-scaled : {n L T : ℕ} {a d a₁ d₁ : List ℕ} (i x y : ℕ) → i < n → times y x ≡ 1 → RowTimes L i x a a₁ → RowTimes T i x d d₁ → Keeps n L T a d a₁ d₁
+pub keeps-scaled : {n L T : ℕ} {a d a₁ d₁ : List ℕ} (i x y : ℕ) → i < n → times y x ≡ 1 → RowTimes L i x a a₁ → RowTimes T i x d d₁
+    → Keeps n L T a d a₁ d₁
 keeps-scaled {n} {L} {T} {a} {d} {a₁} {d₁} i x y hi e sa sd = record {
   says = scaled-same octets (scaled-both octets L T n (inOctets (stored n L T a d)) (inOctets (stored n L T a₁ d₁)) (row-scaled n i x y hi e sa) (row-scaled n i x y hi e sd));
   rows = only-row i n hi sa;
@@ -67,7 +69,8 @@ same-row n m L T a d i (inl c) = refl
 same-row n m L T a d i (inr t) = refl
 
 -- a row past those that may have changed
-past-row : {n L T : ℕ} {a d a₁ d₁ : List ℕ} (m : ℕ) → OnlyBelow (n * L) a a₁ → OnlyBelow (n * T) d d₁ → (i : ℕ) → n ≤ i → (j : Col L ⊎ Col T) → said m L T a₁ d₁ i j ≡ said m L T a d i j
+past-row : {n L T : ℕ} {a d a₁ d₁ : List ℕ} (m : ℕ) → OnlyBelow (n * L) a a₁ → OnlyBelow (n * T) d d₁ → (i : ℕ) → n ≤ i
+    → (j : Col L ⊎ Col T) → said m L T a₁ d₁ i j ≡ said m L T a d i j
 unfolding equation
 past-row {n} {L} {T} m pa pd i h (inl c) = ap oct (only-past pa _ (omega (arith, mul-le-mul-right L h)))
 past-row {n} {L} {T} m pa pd i h (inr t) = ap oct (only-past pd _ (omega (arith, mul-le-mul-right T h)))
@@ -95,7 +98,8 @@ keeps-more {n} {m} {L} {T} {a} {d} {a₁} {d₁} l s = record {
 -- ---- what the stores hold
 
 -- the same equations, in any order
-pub holds-included : {M L T : ℕ} {S : System ℕ} {a d : List ℕ} → Included L T (stored M L T a d) S → Included L T S (stored M L T a d) → Holds M L T S a d
+pub holds-included : {M L T : ℕ} {S : System ℕ} {a d : List ℕ} → Included L T (stored M L T a d) S → Included L T S (stored M L T a d)
+    → Holds M L T S a d
 holds-included {L = L} {T = T} to back = record { to = follows-included octets L T (included-octets to); back = follows-included octets L T (included-octets back) }
 
 pub holds-kept : {n M L T : ℕ} {S : System ℕ} {a d a₁ d₁ : List ℕ} → n ≤ M → Holds M L T S a d → Keeps n L T a d a₁ d₁ → Holds M L T S a₁ d₁

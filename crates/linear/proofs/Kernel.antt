@@ -36,7 +36,8 @@ module _ (K : Field) where
       inr (record { only-zero = λ a v. (t .0) .only-zero a (λ c. v (suc (c .0), omega arith)) }, omega arith)
 
   -- s copies of a pivot x, spread over the rows that it is taken off
-  spread : (n : ℕ) (b m y : ℕ → F) (x : F) → total K n (λ i. b i ⊗ m i) ⊗ x ⊕ total K n (λ i. b i ⊗ y i) ≡ total K n (λ i. b i ⊗ (y i ⊕ m i ⊗ x))
+  spread : (n : ℕ) (b m y : ℕ → F) (x : F)
+      → total K n (λ i. b i ⊗ m i) ⊗ x ⊕ total K n (λ i. b i ⊗ y i) ≡ total K n (λ i. b i ⊗ (y i ⊕ m i ⊗ x))
   spread n b m y x =
       add-comm _ _
       ∙ ap (λ (s : F). total K n (λ i. b i ⊗ y i) ⊕ s) (sym (total-mul-right K n (λ i. b i ⊗ m i) x))
@@ -56,7 +57,8 @@ module _ (K : Field) where
     cleared-zero j = ap (λ (x : F). w (skip p j) zero ⊕ x) (mul-inv-cancel K (w (skip p j) zero) (w p zero) nz) ∙ add-self _
 
     -- a combination of all rows whose coefficient at p is the one that the others ask for
-    whole : (a : ℕ → F) (c : ℕ) → a p ≡ total K n (λ j. a (skip p j) ⊗ factor j) → total K (suc n) (λ i. a i ⊗ w i c) ≡ total K n (λ j. a (skip p j) ⊗ cleared j c)
+    whole : (a : ℕ → F) (c : ℕ) → a p ≡ total K n (λ j. a (skip p j) ⊗ factor j)
+        → total K (suc n) (λ i. a i ⊗ w i c) ≡ total K n (λ j. a (skip p j) ⊗ cleared j c)
     unfolding cleared
     whole a c e =
         total-skip K n p (λ i. a i ⊗ w i c) hp
@@ -111,7 +113,8 @@ module _ (K : Field) where
   kernel (suc L) zero w = inr (record { only-zero = λ a v i h. absurd (omega arith) }, omega arith)
   kernel (suc L) (suc n) w = go (λ u m. kernel L m u) (find (λ i. w i zero ≢ 𝟘) (λ i. zero-or-not K (w i zero)) (suc n))
     where
-      go : ((u : ℕ → ℕ → F) (m : ℕ) → Kernel L m u) → ((i : ℕ) × (i < suc n) × (w i zero ≢ 𝟘)) ⊎ ((i : ℕ) → i < suc n → ¬ (w i zero ≢ 𝟘)) → Kernel (suc L) (suc n) w
+      go : ((u : ℕ → ℕ → F) (m : ℕ) → Kernel L m u) → ((i : ℕ) × (i < suc n) × (w i zero ≢ 𝟘)) ⊎ ((i : ℕ) → i < suc n → ¬ (w i zero ≢ 𝟘))
+          → Kernel (suc L) (suc n) w
       go rec (inl t) = kernel-pivot L n w (t .0) (t .1) (t .2) (rec (λ j c. cleared L n w (t .0) (t .1) (t .2) j (suc c)) n)
       go rec (inr z) = kernel-none L (suc n) w (λ i l. zero-of-not-not K (w i zero) (z i l)) (rec (λ i c. w i (suc c)) (suc n))
 

@@ -13,7 +13,7 @@ pub mod Partly
 pub mod Existence
 pub mod Octets
 pub mod Bytes
-pub mod Octetwise
+pub mod AnswersBytes
 pub mod Growth
 pub mod Rows
 pub mod Keeping

@@ -23,7 +23,8 @@ module _ (K : Field) where
   partly-none L M A = record { enough = omega arith; pivot = λ _. 0; pivot-below = λ k h. absurd (omega arith); unit = λ i k h l. absurd (omega arith) }
 
   -- the rows from r on are 0: the form from which the answers are read
-  pub partly-reduced : {L M r : ℕ} {A : ℕ → ℕ → F} → Partly K L M A r → ((i : ℕ) → r ≤ i → i < M → (c : ℕ) → c < L → A i c ≡ 𝟘) → Reduced K L M A r
+  pub partly-reduced : {L M r : ℕ} {A : ℕ → ℕ → F} → Partly K L M A r → ((i : ℕ) → r ≤ i → i < M → (c : ℕ) → c < L → A i c ≡ 𝟘)
+      → Reduced K L M A r
   partly-reduced p z = record {
     enough = p .enough;
     pivot = p .pivot;

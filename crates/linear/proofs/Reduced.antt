@@ -87,7 +87,8 @@ module _ (K : Field) where
         found c h (inl t) = t
         found c h (inr f) = absurd (h f)
 
-        go : ((c : ℕ) × (c < L) × Free c) ⊎ ((c : ℕ) → c < L → ¬ Free c) → ((c : ℕ) × (c < L) × Free c) ⊎ ((c : ℕ) → c < L → (k : ℕ) × (k < r) × (pivot k ≡ c))
+        go : ((c : ℕ) × (c < L) × Free c) ⊎ ((c : ℕ) → c < L → ¬ Free c)
+            → ((c : ℕ) × (c < L) × Free c) ⊎ ((c : ℕ) → c < L → (k : ℕ) × (k < r) × (pivot k ≡ c))
         go (inl t) = inl t
         go (inr h) = inr (λ c l. found c (h c l) (pivot-or-free c))
 
@@ -186,7 +187,8 @@ module _ (K : Field) where
       unfolding solution
       solution-fits = record { meets = λ i l t q. go i l t q (decLt i r) }
         where
-          go : (i : ℕ) → i < R .count → (t : ℕ) → t < T → Dec (i < r) → total K L (λ c. R .coef i c ⊗ spread-out (λ k. R .byte k t) c) ≡ R .byte i t
+          go : (i : ℕ) → i < R .count → (t : ℕ) → t < T → Dec (i < r)
+              → total K L (λ c. R .coef i c ⊗ spread-out (λ k. R .byte k t) c) ≡ R .byte i t
           go i l t q (yes h) = pivot-row-times (λ k. R .byte k t) i h
           go i l t q (no h) = zero-row-times (spread-out (λ k. R .byte k t)) i h l ∙ sym (clean i (omega arith) l t q)
 
@@ -224,7 +226,9 @@ module _ (K : Field) where
       pub solved : r ≡ L → Solved K L T S (solution L T R r red)
       solved e = record { fits = fits; only = λ D f. go D f (free-or-all L T R r red) }
         where
-          go : (D : Symbols F) → Fits K L T S D → ((c : ℕ) × (c < L) × Free L T R r red c) ⊎ ((c : ℕ) → c < L → (k : ℕ) × (k < r) × (red .pivot k ≡ c)) → Same L T D (solution L T R r red)
+          go : (D : Symbols F) → Fits K L T S D
+              → ((c : ℕ) × (c < L) × Free L T R r red c) ⊎ ((c : ℕ) → c < L → (k : ℕ) × (k < r) × (red .pivot k ≡ c))
+              → Same L T D (solution L T R r red)
           go D f (inl (c, l, free)) = absurd (let h : r < L = free-lt L T R r red c l free in omega arith)
           go D f (inr all) = fits-same L T R r red all D (solution L T R r red) (fits-follows K L T to f) (solution-fits L T R r red clean)
 

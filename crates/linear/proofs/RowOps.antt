@@ -69,7 +69,8 @@ module _ (K : Field) where
 
   -- A row operation on the coefficients and the same one on the bytes is one on the equations.
   module _ (L T n : ℕ) (S R : System F) where
-    pub added-both : {k : ℕ} {factor : ℕ → F} → Added K n k factor (cut L (S .coef)) (cut L (R .coef)) → Added K n k factor (cut T (S .byte)) (cut T (R .byte)) → Added K n k factor (equation L T S) (equation L T R)
+    pub added-both : {k : ℕ} {factor : ℕ → F} → Added K n k factor (cut L (S .coef)) (cut L (R .coef))
+        → Added K n k factor (cut T (S .byte)) (cut T (R .byte)) → Added K n k factor (equation L T S) (equation L T R)
     unfolding equation
     added-both {k} {factor} a b = record { row-below = a .row-below; row-kept = kept; others = rows }
       where
@@ -81,7 +82,8 @@ module _ (K : Field) where
         rows i h ne (inl c) = a .others i h ne c
         rows i h ne (inr t) = b .others i h ne t
 
-    pub scaled-both : {k : ℕ} {x y : F} → Scaled K n k x y (cut L (S .coef)) (cut L (R .coef)) → Scaled K n k x y (cut T (S .byte)) (cut T (R .byte)) → Scaled K n k x y (equation L T S) (equation L T R)
+    pub scaled-both : {k : ℕ} {x y : F} → Scaled K n k x y (cut L (S .coef)) (cut L (R .coef))
+        → Scaled K n k x y (cut T (S .byte)) (cut T (R .byte)) → Scaled K n k x y (equation L T S) (equation L T R)
     unfolding equation
     scaled-both {k} {x} a b = record { row-below = a .row-below; undone = a .undone; row = row′; others = others′ }
       where
@@ -93,7 +95,8 @@ module _ (K : Field) where
         others′ i h ne (inl c) = a .others i h ne c
         others′ i h ne (inr t) = b .others i h ne t
 
-    pub swapped-both : {i k : ℕ} → Swapped K n i k (cut L (S .coef)) (cut L (R .coef)) → Swapped K n i k (cut T (S .byte)) (cut T (R .byte)) → Swapped K n i k (equation L T S) (equation L T R)
+    pub swapped-both : {i k : ℕ} → Swapped K n i k (cut L (S .coef)) (cut L (R .coef)) → Swapped K n i k (cut T (S .byte)) (cut T (R .byte))
+        → Swapped K n i k (equation L T S) (equation L T R)
     unfolding equation
     swapped-both {i} {k} a b = record { first-below = a .first-below; second-below = a .second-below; first = first′; second = second′; others = others′ }
       where

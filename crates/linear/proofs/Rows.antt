@@ -29,14 +29,16 @@ infixl 70 _⊗_
 -- ---- what stands where afterwards
 
 -- every other row is as it was, also while only n entries of row i are written
-pub row-other-part : {f : ℕ → ℕ} {xs ys : List ℕ} {n w : ℕ} (i : ℕ) → n ≤ w → Written f xs ys (i * w) n → (k : ℕ) → k ≢ i → (c : ℕ) → c < w → cell w ys k c ≡ cell w xs k c
+pub row-other-part : {f : ℕ → ℕ} {xs ys : List ℕ} {n w : ℕ} (i : ℕ) → n ≤ w → Written f xs ys (i * w) n → (k : ℕ) → k ≢ i → (c : ℕ) → c < w
+    → cell w ys k c ≡ cell w xs k c
 row-other-part {f} {xs} {ys} {n} {w} i b s k ne c h = go (decLt k i)
   where
     go : Dec (k < i) → cell w ys k c ≡ cell w xs k c
     go (yes l) = s .low (k * w + c) (omega (arith, mul-le-mul-right w l))
     go (no l) = let q : i < k = omega arith in s .high (k * w + c) (omega (arith, mul-le-mul-right w q))
 
-pub row-other : {f : ℕ → ℕ} {xs ys : List ℕ} {w : ℕ} (i : ℕ) → Written f xs ys (i * w) w → (k : ℕ) → k ≢ i → (c : ℕ) → c < w → cell w ys k c ≡ cell w xs k c
+pub row-other : {f : ℕ → ℕ} {xs ys : List ℕ} {w : ℕ} (i : ℕ) → Written f xs ys (i * w) w → (k : ℕ) → k ≢ i → (c : ℕ) → c < w
+    → cell w ys k c ≡ cell w xs k c
 row-other i s = row-other-part i (omega arith) s
 
 -- octets stay octets
@@ -52,26 +54,45 @@ bytes-written {f} {xs} {ys} {at} {n} b small s x = go (decLt x at) (decLt x (at 
         let b : f (x - at) < 256 = small (x - at) (omega arith) in
         rw (← e, v) b
 
--- ---- a factor 0 adds nothing, a factor 1 adds the row, and 0 and a row is the row
+-- ---- a factor 0 adds nothing, a factor 1 adds the row or leaves it, and 0 and a row is the row
+
+-- the row is already what it should become
+pub row-same : {f : ℕ → ℕ} {w : ℕ} {xs : List ℕ} (i : ℕ) → ((c : ℕ) → c < w → cell w xs i c ≡ f c) → Written f xs xs (i * w) w
+row-same i e = record { size = refl; part = e; low = λ k h. refl; high = λ k h. refl }
 
 pub row-added-none : {w f : ℕ} (i k : ℕ) {xs : List ℕ} → f ≡ 0 → RowAdded w i k f xs xs
-row-added-none {w} {f} i k {xs} e = record {
-  size = refl;
-  part = λ c h. sym (ap (λ (x : ℕ). plus (cell w xs i c) (times x (cell w xs k c))) e ∙ ap (plus (cell w xs i c)) (zero-times (cell w xs k c)) ∙ xor-zero-r (cell w xs i c));
-  low = λ k h. refl;
-  high = λ k h. refl;
-}
+row-added-none {w} {f} i k {xs} e =
+    row-same i (λ c h. sym (ap (λ (x : ℕ). plus (cell w xs i c) (times x (cell w xs k c))) e ∙ ap (plus (cell w xs i c)) (zero-times (cell w xs k c)) ∙ xor-zero-r (cell w xs i c)))
 
-pub row-added-once : {w : ℕ} (i k : ℕ) {xs ys : List ℕ} → Bytes xs → Written (λ c. plus (cell w xs i c) (cell w xs k c)) xs ys (i * w) w → RowAdded w i k 1 xs ys
+pub row-times-one : {w f : ℕ} (i : ℕ) {xs : List ℕ} → Bytes xs → f ≡ 1 → RowTimes w i f xs xs
+row-times-one {w} {f} i {xs} b e = row-same i (λ c h. sym (ap (λ (x : ℕ). times x (cell w xs i c)) e ∙ one-times (cell w xs i c) (b _)))
+
+-- a sum of two rows, as a sum with the row times 1, and back
+pub row-added-once : {w : ℕ} (i k : ℕ) {xs ys : List ℕ} → Bytes xs → Written (λ c. plus (cell w xs i c) (cell w xs k c)) xs ys (i * w) w
+    → RowAdded w i k 1 xs ys
 row-added-once {w} i k {xs} b s = written-as s (λ c h. ap (plus (cell w xs i c)) (sym (one-times (cell w xs k c) (b _))))
 
+pub row-once-added : {w : ℕ} (i k : ℕ) {xs ys : List ℕ} → Bytes xs → RowAdded w i k 1 xs ys
+    → Written (λ c. plus (cell w xs i c) (cell w xs k c)) xs ys (i * w) w
+row-once-added {w} i k {xs} b s = written-as s (λ c h. ap (plus (cell w xs i c)) (one-times (cell w xs k c) (b _)))
+
 -- added to a row that is 0, a row is copied
-pub copied-by-adding : {w : ℕ} (i k : ℕ) {xs ys : List ℕ} → ((c : ℕ) → c < w → cell w xs i c ≡ 0) → Written (λ c. plus (cell w xs i c) (cell w xs k c)) xs ys (i * w) w → RowCopied w i k xs xs ys
+pub copied-by-adding : {w : ℕ} (i k : ℕ) {xs ys : List ℕ} → ((c : ℕ) → c < w → cell w xs i c ≡ 0)
+    → Written (λ c. plus (cell w xs i c) (cell w xs k c)) xs ys (i * w) w → RowCopied w i k xs xs ys
 copied-by-adding {w} i k {xs} z s = written-as s (λ c h. ap (λ (x : ℕ). plus x (cell w xs k c)) (z c h) ∙ xor-zero-l (cell w xs k c))
 
 -- added to a row that is the same, it makes it 0
-pub cleared-by-adding : {w : ℕ} (i k : ℕ) {xs ys : List ℕ} → ((c : ℕ) → c < w → cell w xs k c ≡ cell w xs i c) → Written (λ c. plus (cell w xs i c) (cell w xs k c)) xs ys (i * w) w → RowCleared w i xs ys
+pub cleared-by-adding : {w : ℕ} (i k : ℕ) {xs ys : List ℕ} → ((c : ℕ) → c < w → cell w xs k c ≡ cell w xs i c)
+    → Written (λ c. plus (cell w xs i c) (cell w xs k c)) xs ys (i * w) w → RowCleared w i xs ys
 cleared-by-adding {w} i k {xs} e s = written-as s (λ c h. ap (plus (cell w xs i c)) (e c h) ∙ xor-self (cell w xs i c))
+
+-- row k added to row i, which is 0, and then row i to row k: row k went to place i and left 0
+pub moved-by-adding : {w : ℕ} (i k : ℕ) {xs ys zs : List ℕ} → i ≢ k → ((c : ℕ) → c < w → cell w xs i c ≡ 0)
+    → Written (λ c. plus (cell w xs i c) (cell w xs k c)) xs ys (i * w) w
+    → Written (λ c. plus (cell w ys k c) (cell w ys i c)) ys zs (k * w) w → RowCopied w i k xs xs ys × RowCleared w k ys zs
+moved-by-adding {w} i k {xs} {ys} ne z s u =
+    let copied : RowCopied w i k xs xs ys = copied-by-adding i k z s in
+    (copied, cleared-by-adding k i (λ c h. copied .part c h ∙ sym (row-other i s k (λ e. ne (sym e)) c h)) u)
 
 -- ---- nothing changed past a place
 
@@ -104,7 +125,8 @@ only-then p q = record { size = q .size ∙ p .size; part = q .part; low = λ k 
 -- ---- the row operations of linear algebra
 
 module _ {w : ℕ} {xs ys : List ℕ} where
-  pub row-added : (n i k f : ℕ) → k < n → i ≢ k → RowAdded w i k f xs ys → Added octets n k (update i (oct f) (λ _. 𝟘)) (cut w (symbols w xs)) (cut w (symbols w ys))
+  pub row-added : (n i k f : ℕ) → k < n → i ≢ k → RowAdded w i k f xs ys
+      → Added octets n k (update i (oct f) (λ _. 𝟘)) (cut w (symbols w xs)) (cut w (symbols w ys))
   row-added n i k f hk ne s = record {
     row-below = hk;
     row-kept = λ c. ap oct (row-other i s k (λ e. ne (sym e)) (c .0) (c .1));
@@ -124,7 +146,8 @@ module _ {w : ℕ} {xs ys : List ℕ} where
           ∙ sym (ap (λ (x : Octet). oct (cell w xs j c) ⊕ x) (ap (λ (x : Octet). x ⊗ oct (cell w xs k c)) (update-other i (oct f) (λ _. 𝟘) j m) ∙ zero-mul octets (oct (cell w xs k c)))
           ∙ add-zero octets (oct (cell w xs j c)))
 
-  pub row-scaled : (n i f g : ℕ) → i < n → times g f ≡ 1 → RowTimes w i f xs ys → Scaled octets n i (oct f) (oct g) (cut w (symbols w xs)) (cut w (symbols w ys))
+  pub row-scaled : (n i f g : ℕ) → i < n → times g f ≡ 1 → RowTimes w i f xs ys
+      → Scaled octets n i (oct f) (oct g) (cut w (symbols w xs)) (cut w (symbols w ys))
   row-scaled n i f g hi e s = record {
     row-below = hi;
     undone = sym (oct-times g f) ∙ ap oct e ∙ oct-one;
@@ -133,7 +156,8 @@ module _ {w : ℕ} {xs ys : List ℕ} where
   }
 
 -- row k goes to place i, where there was 0, and leaves 0: the two change places
-pub row-moved : {w : ℕ} {xs ys zs : List ℕ} (n i k : ℕ) → i < n → k < n → i ≢ k → ((c : ℕ) → c < w → cell w xs i c ≡ 0) → RowCopied w i k xs xs ys → RowCleared w k ys zs
+pub row-moved : {w : ℕ} {xs ys zs : List ℕ} (n i k : ℕ) → i < n → k < n → i ≢ k → ((c : ℕ) → c < w → cell w xs i c ≡ 0)
+    → RowCopied w i k xs xs ys → RowCleared w k ys zs
     → Swapped octets n i k (cut w (symbols w xs)) (cut w (symbols w zs))
 row-moved {w} {xs} {ys} {zs} n i k hi hk ne z s u = record {
   first-below = hi;

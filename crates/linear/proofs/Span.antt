@@ -65,5 +65,6 @@ module _ (K : Field) where
     within-trans f g i h = span-trans (f i h) g
 
   -- the same combination, on some of the columns
-  pub span-pull : {J J′ : Type 0} (f : J′ → J) {n : ℕ} {w : ℕ → J → F} {v : J → F} → InSpan K n w v → InSpan K n (λ i j. w i (f j)) (λ j. v (f j))
+  pub span-pull : {J J′ : Type 0} (f : J′ → J) {n : ℕ} {w : ℕ → J → F} {v : J → F} → InSpan K n w v
+      → InSpan K n (λ i j. w i (f j)) (λ j. v (f j))
   span-pull f s = record { coef = s .coef; eq = λ j. s .eq (f j) }

@@ -3,13 +3,13 @@
 -- Assumes nothing.
 use mathlib.Core.Path.{_≡_}
 use mathlib.Core.Logic.{_≢_, _⊎_}
-use mathlib.Core.List.{List}
-use Prim.Native.Nat.{ℕ, _+_, _*_, _<_}
+use mathlib.Core.List.{List, [], _∷_}
+use Prim.Native.Nat.{ℕ, zero, suc, _+_, _*_, _/_, _%_, _<_}
 use lib.ListN.{length, getD}
 use Rattle.field.specs.Octet.{times}
 use Rattle.field.specs.Sum.{sum}
 use Rattle.linear.specs.System.{System, Symbols, Shortfall}
-use Rattle.linear.specs.Octets.{octets, Octet, oct}
+use Rattle.linear.specs.Octets.{octets, Octet, oct, value}
 
 -- every element is an octet
 abbrev pub Bytes : List ℕ → Type 0
@@ -39,6 +39,15 @@ inOctets S = record { count = S .count; coef = λ i c. oct (S .coef i c); byte =
 -- the symbols of T octets that a list holds, as octets
 abbrev pub symbols : (T : ℕ) → List ℕ → Symbols Octet
 symbols T C c t = oct (cell T C c t)
+
+-- f 0, f 1, .., f (n - 1)
+unfoldable pub tabulate : ℕ → (ℕ → ℕ) → List ℕ
+tabulate zero f = []
+tabulate (suc n) f = f zero ∷ tabulate n (λ i. f (suc i))
+
+-- the list that holds these symbols
+unfoldable pub pack : (L T : ℕ) → Symbols Octet → List ℕ
+pack L T C = tabulate (L * T) (λ x. value (C (x / T) (x % T)))
 
 -- demand 3: the set C meets every constraint and yields every symbol that arrived
 pub record FitsBytes (L T : ℕ) (S : System ℕ) (C : List ℕ) : Type 0 where
@@ -79,4 +88,5 @@ module _ (L T : ℕ) (S : System ℕ) where
 pub record OneMoreBytes (L : ℕ) (S R : System ℕ) (q : ℕ) : Type 0 where
   pub all : (i : ℕ) → i < S .count → (k : ℕ) × (k < R .count) × ((c : ℕ) → c < L → S .coef i c ≡ R .coef k c)
   pub below : q < R .count
-  pub only : (i : ℕ) → i < R .count → ((k : ℕ) × (k < S .count) × ((c : ℕ) → c < L → R .coef i c ≡ S .coef k c)) ⊎ ((c : ℕ) → c < L → R .coef i c ≡ R .coef q c)
+  pub only : (i : ℕ) → i < R .count
+      → ((k : ℕ) × (k < S .count) × ((c : ℕ) → c < L → R .coef i c ≡ S .coef k c)) ⊎ ((c : ℕ) → c < L → R .coef i c ≡ R .coef q c)

@@ -56,6 +56,11 @@ pub record NextPivot (r q : ℕ) (pivot pivot₁ : ℕ → ℕ) : Type 0 where
   pub old : (k : ℕ) → k < r → pivot₁ k ≡ pivot k
   pub new : pivot₁ r ≡ q
 
+-- the r pivots are different columns below L
+pub record Columns (L r : ℕ) (pivot : ℕ → ℕ) : Type 0 where
+  pub below : (k : ℕ) → k < r → pivot k < L
+  pub once : (i k : ℕ) → i < r → k < r → pivot i ≡ pivot k → i ≡ k
+
 -- the symbols of the first n held rows stand in `out`, each in the column of its pivot
 pub record Gathered (T n : ℕ) (pivot : ℕ → ℕ) (d out : List ℕ) : Type 0 where
   pub at : (k : ℕ) → k < n → (t : ℕ) → t < T → cell T out (pivot k) t ≡ cell T d k t

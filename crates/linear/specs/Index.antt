@@ -22,6 +22,12 @@ module _ {A : Type 0} where
   update (suc p) x f zero = f zero
   update (suc p) x f (suc i) = update p x (λ j. f (suc j)) i
 
+  -- f 0 .. f (n - 1), then g
+  abbrev pub ahead : ℕ → (ℕ → A) → (ℕ → A) → ℕ → A
+  ahead zero f g i = g i
+  ahead (suc n) f g zero = f zero
+  ahead (suc n) f g (suc i) = ahead n (λ j. f (suc j)) g i
+
 -- the i-th number other than p
 abbrev pub skip : ℕ → ℕ → ℕ
 skip zero i = suc i

@@ -6,11 +6,11 @@ use Prim.Native.Nat.{ℕ, _<_}
 use native.Mathlib.Omega.{arith}
 use Rattle.linear.specs.System.{System, Answer, contradicted, settled, left-open}
 use Rattle.linear.specs.Octets.{octets}
-use Rattle.linear.specs.Bytes.{Block, OctetSymbols, inOctets, FitsBytes, SolvedBytes, ContradictionBytes, OpenBytes, ShortfallBytes, AnswerBytes, contradicted-bytes, settled-bytes, left-open-bytes}
+use Rattle.linear.specs.Bytes.{Block, OctetSymbols, inOctets, pack, FitsBytes, SolvedBytes, ContradictionBytes, OpenBytes, ShortfallBytes, AnswerBytes, contradicted-bytes, settled-bytes, left-open-bytes}
 use Rattle.linear.proofs.System.{same-sym, solved-same}
 use Rattle.linear.proofs.Answers.{shortfall-once}
 use Rattle.linear.proofs.Existence.{answer}
-use Rattle.linear.proofs.Bytes.{pack, block-pack, symbols-pack, solved-bytes, contradiction-bytes, open-bytes}
+use Rattle.linear.proofs.Bytes.{block-pack, symbols-pack, solved-bytes, contradiction-bytes, open-bytes}
 
 module _ {L T : ℕ} {S : System ℕ} where
   -- one set only
