@@ -1,0 +1,2 @@
+-- What the contracts of `solver` cite.
+pub mod Display
