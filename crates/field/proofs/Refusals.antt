@@ -4,7 +4,7 @@ use mathlib.Core.Path.{_≡_, refl, sym, ap, _∙_, subst}
 use mathlib.Core.Bool.{Bool, true, false}
 use mathlib.Core.List.{List}
 use Prim.Native.Nat.{ℕ}
-use Rattle.field.specs.Answer.{Outcome, given, refused, unless, before, Left, done, numberOf}
+use Rattle.field.specs.Answer.{Outcome, given, refused, unless, before, Left, Does, done, numberOf}
 use Rattle.field.specs.Runs.{Written}
 use Rattle.field.specs.declared.refusal.Refusal.{Refusal}
 use Rattle.field.specs.declared.refusal.Answer as Plain
@@ -48,22 +48,17 @@ pub left-once : {A : Type 0} (P : List ℕ → Type 0) (o : Outcome A) (xs ys zs
 left-once P (given a) xs ys zs once h k = once h k
 left-once P (refused n) xs ys zs once h k = h ∙ sym k
 
--- what a contract allows: the answer stands for o, and memory is as it was or as P says
-abbrev pub Allows : {R A : Type 0} → (R → Outcome A) → Outcome A → List ℕ → (List ℕ → Type 0) → R → List ℕ → Type 0
-Allows of o xs P r ys = (of r ≡ o) × Left (of r) xs ys (P ys)
+-- a contract settles answer and memory: any two results that it allows are the same
+abbrev pub Settled : {R : Type 0} → (R → List ℕ → Type 0) → Type 0
+Settled {R} C = (a b : R) (ys zs : List ℕ) → C a ys → C b zs → (a ≡ b) × (ys ≡ zs)
 
--- any two results that it allows are the same
-abbrev pub Settles : {R A : Type 0} → (R → Outcome A) → Outcome A → List ℕ → (List ℕ → Type 0) → Type 0
-Settles {R} of o xs P = (a b : R) (ys zs : List ℕ) → Allows of o xs P a ys → Allows of o xs P b zs → (a ≡ b) × (ys ≡ zs)
+module _ {R A : Type 0} (of : R → Outcome A) (only : (a b : R) → of a ≡ of b → a ≡ b) (o : Outcome A) (xs : List ℕ) where
+  pub settled : (P : List ℕ → Type 0) → ((ys zs : List ℕ) → P ys → P zs → ys ≡ zs) → Settled (Does of o xs P)
+  settled P once a b ys zs h k = (
+    only a b (h .0 ∙ sym (k .0)),
+    left-once P (of a) xs ys zs (once ys zs) (h .1) (subst (λ (r : Outcome A). Left r xs zs (P zs)) (k .0 ∙ sym (h .0)) (k .1)),
+  )
 
-pub settles : {R A : Type 0} (of : R → Outcome A) (o : Outcome A) (xs : List ℕ) (P : List ℕ → Type 0) → ((a b : R) → of a ≡ of b → a ≡ b)
-    → ((ys zs : List ℕ) → P ys → P zs → ys ≡ zs) → Settles of o xs P
-settles {R} {A} of o xs P only once a b ys zs h k = (
-  only a b (h .0 ∙ sym (k .0)),
-  left-once P (of a) xs ys zs (once ys zs) (h .1) (subst (λ (r : Outcome A). Left r xs zs (P zs)) (k .0 ∙ sym (h .0)) (k .1)),
-)
-
--- of a call that writes f to the n places from `at` on
-pub settles-written : {R A : Type 0} (of : R → Outcome A) (o : Outcome A) (xs : List ℕ) (f : ℕ → ℕ) (at n : ℕ) → ((a b : R) → of a ≡ of b → a ≡ b)
-    → Settles of o xs (λ ys. Written f xs ys at n)
-settles-written of o xs f at n only = settles of o xs (λ ys. Written f xs ys at n) only (λ ys zs u v. written-once u v)
+  -- of a call that writes f to the n places from `at` on
+  pub settled-written : (f : ℕ → ℕ) (at n : ℕ) → Settled (Does of o xs (λ ys. Written f xs ys at n))
+  settled-written f at n = settled (λ ys. Written f xs ys at n) (λ ys zs u v. written-once u v)

@@ -32,6 +32,10 @@ abbrev pub Left : {A : Type 0} → Outcome A → List ℕ → List ℕ → Type 
 Left (given a) xs ys P = P
 Left (refused n) xs ys P = ys ≡ xs
 
+-- what a call that may refuse and may write does: its answer r stands for o, and memory is as it was or as P says
+abbrev pub Does : {R A : Type 0} → (R → Outcome A) → Outcome A → List ℕ → (List ℕ → Type 0) → R → List ℕ → Type 0
+Does of o xs P r ys = (of r ≡ o) × Left (of r) xs ys (P ys)
+
 -- document 01, 'Refusal numbers'
 abbrev pub numberOf : Refusal → ℕ
 numberOf Why.DivisorZero = 1

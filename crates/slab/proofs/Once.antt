@@ -5,10 +5,10 @@ use mathlib.Core.List.{List}
 use Prim.Native.Nat.{ℕ, _*_}
 use lib.ListN.{length}
 use Rattle.field.specs.Answer.{numberOf, done}
-use Rattle.field.specs.Runs.{Written, added, fused, scaled}
+use Rattle.field.specs.Runs.{added, fused, scaled}
 use Rattle.field.proofs.Answers.{given-only, given-not-refused, refused-only, number-only}
-use Rattle.field.proofs.Refusals.{Settles, settles-written, done-only}
-use Rattle.slab.specs.Slab.{made, range, zeroed, located, placed, paired, start, symbol}
+use Rattle.field.proofs.Refusals.{Settled, settled-written, done-only}
+use Rattle.slab.specs.Slab.{made, range, located, shown, start, symbol, Zeroed, SymbolsAdded, SymbolScaled, SymbolsFused}
 use Rattle.slab.specs.declared.symbol_slab.SymbolSlab.{SymbolSlab}
 use Rattle.slab.specs.declared.symbol_slab.Made.{Made}
 use Rattle.slab.specs.declared.symbol_slab.Made.the-variants as Mades
@@ -29,28 +29,24 @@ range-only (Ranges.Bytes s t) (Ranges.Refused w) e = absurd (given-not-refused (
 range-only (Ranges.Refused v) (Ranges.Bytes s t) e = absurd (given-not-refused (s, t) (numberOf v) (sym e))
 range-only (Ranges.Refused v) (Ranges.Refused w) e = ap Ranges.Refused (number-only v w (refused-only (numberOf v) (numberOf w) e))
 
-module _ (xs : List ℕ) where
-  pub with-zeros-once : (count size : ℕ) → Settles made (zeroed (length xs) count size) xs (λ ys. Written (λ k. 0) xs ys 0 (count * size))
-  with-zeros-once count size = settles-written made (zeroed (length xs) count size) xs (λ k. 0) 0 (count * size) made-only
+pub with-zeros-once : (xs : List ℕ) (count size : ℕ) → Settled (Zeroed xs count size)
+with-zeros-once xs count size = settled-written made made-only _ xs (λ k. 0) 0 (count * size)
 
-  pub locate-once : (len : ℕ) (slab : SymbolSlab) (order : List ℕ) (i : ℕ) (a b : Range) → range a ≡ located len (slab .count) (slab .size) order i
+module _ (xs : List ℕ) (slab : SymbolSlab) (order : List ℕ) where
+  pub locate-once : (len i : ℕ) (a b : Range) → range a ≡ located len (slab .count) (slab .size) order i
       → range b ≡ located len (slab .count) (slab .size) order i → a ≡ b
-  locate-once len slab order i a b p q = range-only a b (p ∙ sym q)
+  locate-once len i a b p q = range-only a b (p ∙ sym q)
 
-  pub add-assign-once : (slab : SymbolSlab) (order : List ℕ) (dest src : ℕ) → Settles done (paired (length xs) (slab .count) (slab .size) order dest src) xs
-      (λ ys. Written (added xs (start slab order dest) (symbol slab order src xs)) xs ys (start slab order dest) (slab .size))
-  add-assign-once slab order dest src =
-      settles-written done (paired (length xs) (slab .count) (slab .size) order dest src) xs (added xs (start slab order dest) (symbol slab order src xs))
-      (start slab order dest) (slab .size) done-only
+  pub get-once : (i : ℕ) (ys zs : List ℕ) → ys ≡ shown (located (length xs) (slab .count) (slab .size) order i) xs
+      → zs ≡ shown (located (length xs) (slab .count) (slab .size) order i) xs → ys ≡ zs
+  get-once i ys zs p q = p ∙ sym q
 
-  pub mulassign-scalar-once : (slab : SymbolSlab) (order : List ℕ) (dest c : ℕ) → Settles done (placed (length xs) (slab .count) (slab .size) order dest) xs
-      (λ ys. Written (scaled c (symbol slab order dest xs)) xs ys (start slab order dest) (slab .size))
-  mulassign-scalar-once slab order dest c =
-      settles-written done (placed (length xs) (slab .count) (slab .size) order dest) xs (scaled c (symbol slab order dest xs)) (start slab order dest)
-      (slab .size) done-only
+  pub add-assign-once : (dest src : ℕ) → Settled (SymbolsAdded xs slab order dest src)
+  add-assign-once dest src = settled-written done done-only _ xs (added xs (start slab order dest) (symbol slab order src xs)) (start slab order dest) (slab .size)
 
-  pub fma-once : (slab : SymbolSlab) (order : List ℕ) (dest src c : ℕ) → Settles done (paired (length xs) (slab .count) (slab .size) order dest src) xs
-      (λ ys. Written (fused xs (start slab order dest) c (symbol slab order src xs)) xs ys (start slab order dest) (slab .size))
-  fma-once slab order dest src c =
-      settles-written done (paired (length xs) (slab .count) (slab .size) order dest src) xs (fused xs (start slab order dest) c (symbol slab order src xs))
-      (start slab order dest) (slab .size) done-only
+  pub mulassign-scalar-once : (dest c : ℕ) → Settled (SymbolScaled xs slab order dest c)
+  mulassign-scalar-once dest c = settled-written done done-only _ xs (scaled c (symbol slab order dest xs)) (start slab order dest) (slab .size)
+
+  pub fma-once : (dest src c : ℕ) → Settled (SymbolsFused xs slab order dest src c)
+  fma-once dest src c =
+      settled-written done done-only _ xs (fused xs (start slab order dest) c (symbol slab order src xs)) (start slab order dest) (slab .size)

@@ -7,8 +7,10 @@ use mathlib.Core.Logic.{_⊎_}
 use Prim.Native.Nat.{ℕ, _+_, _-_, _*_, _≤_, _<_}
 use lib.Dec.{eqb, ltb, leb}
 use lib.ListN.{length, getD, take, drop}
-use Rattle.field.specs.Answer.{Outcome, given, refused, unless, numberOf, before}
+use Rattle.field.specs.Answer.{Outcome, given, refused, unless, before, Does, done, numberOf}
 use Rattle.field.specs.Choice.{pick, both}
+use Rattle.field.specs.Runs.{Written, added, fused, scaled}
+use Rattle.field.specs.declared.refusal.Answer.{Answer}
 use Rattle.slab.specs.declared.symbol_slab.SymbolSlab.{SymbolSlab}
 use Rattle.slab.specs.declared.symbol_slab.Made.{Made}
 use Rattle.slab.specs.declared.symbol_slab.Made.the-variants as Mades
@@ -75,13 +77,28 @@ abbrev pub shown : Outcome (ℕ × ℕ) → List ℕ → List ℕ
 shown (given r) xs = part xs (r .0) (r .1 - r .0)
 shown (refused n) xs = []
 
--- a slab of `count` symbols of t bytes
-abbrev pub zeroed : ℕ → ℕ → ℕ → Outcome SymbolSlab
-zeroed len count t =
-    unless (ltb 131070 count) 2
-    (unless (ltb len (count * t)) 8
-    (given record { count = count; size = t }))
-
 abbrev pub made : Made → Outcome SymbolSlab
 made (Mades.Slab slab) = given slab
 made (Mades.Refused why) = refused (numberOf why)
+
+-- The calls. xs is the store at entry and ys at exit, r the answer.
+
+abbrev pub Zeroed : List ℕ → ℕ → ℕ → Made → List ℕ → Type 0
+Zeroed xs count t =
+    Does made (unless (ltb 131070 count) 2 (unless (ltb (length xs) (count * t)) 8 (given record { count = count; size = t }))) xs
+    (λ ys. Written (λ k. 0) xs ys 0 (count * t))
+
+abbrev pub SymbolsAdded : List ℕ → SymbolSlab → List ℕ → ℕ → ℕ → Answer → List ℕ → Type 0
+SymbolsAdded xs slab order dest src =
+    Does done (paired (length xs) (slab .count) (slab .size) order dest src) xs
+    (λ ys. Written (added xs (start slab order dest) (symbol slab order src xs)) xs ys (start slab order dest) (slab .size))
+
+abbrev pub SymbolScaled : List ℕ → SymbolSlab → List ℕ → ℕ → ℕ → Answer → List ℕ → Type 0
+SymbolScaled xs slab order dest c =
+    Does done (placed (length xs) (slab .count) (slab .size) order dest) xs
+    (λ ys. Written (scaled c (symbol slab order dest xs)) xs ys (start slab order dest) (slab .size))
+
+abbrev pub SymbolsFused : List ℕ → SymbolSlab → List ℕ → ℕ → ℕ → ℕ → Answer → List ℕ → Type 0
+SymbolsFused xs slab order dest src c =
+    Does done (paired (length xs) (slab .count) (slab .size) order dest src) xs
+    (λ ys. Written (fused xs (start slab order dest) c (symbol slab order src xs)) xs ys (start slab order dest) (slab .size))

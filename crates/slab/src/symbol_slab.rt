@@ -1,11 +1,10 @@
 // Symbols in lent bytes (symbol_slab.rs of the crate). A logical symbol i is the T bytes from place p · T on, where p is what
 // the order says of i, and i itself if the order is empty. Each call is given the slab's numbers, its bytes and its order.
 ghost use mathlib.Core.Path.{_≡_};
-ghost use Prim.Native.Nat.{_+_, _*_, _<_};
 ghost use lib.ListN.{length};
-ghost use Rattle.field.specs.Runs.{Written, added, fused, scaled};
-ghost use Rattle.field.specs.Answer.{Left, done};
-ghost use Rattle.slab.specs.Slab.{Reached, located, made, paired, physical, placed, range, shown, start, strange, symbol, zeroed};
+ghost use Rattle.field.specs.Answer.{done};
+ghost use Rattle.slab.specs.Slab.{Reached, SymbolScaled, SymbolsAdded, SymbolsFused, Zeroed};
+ghost use Rattle.slab.specs.Slab.{located, paired, physical, placed, range, shown, strange};
 use crate::beneath::symbols;
 use field::refusal::Answer;
 use field::refusal::Refusal;
@@ -90,8 +89,7 @@ fn pair(len: usize, count: usize, t: u16, order: &[u32], dest: usize, src: usize
 
 // A slab of `count` symbols, all zero.
 pub fn with_zeros(store: &mut [u8], count: usize, size: u16) -> Made
-    ensures { λ r. ⌜ made r ≡ zeroed (length (now (store .entry))) count size ⌝ }
-    ensures { λ r. ⌜ Left (made r) (now (store .entry)) (now (store .exit)) (Written (λ k. 0) (now (store .entry)) (now (store .exit)) 0 (count * size)) ⌝ }
+    ensures { λ r. ⌜ Zeroed (now (store .entry)) count size r (now (store .exit)) ⌝ }
 {
     if count > 131070 {
         return Made::Refused(Refusal::OutOfRange);
@@ -150,10 +148,7 @@ pub fn add_assign(
     dest: usize,
     src: usize,
 ) -> Answer
-    ensures { λ r. ⌜ done r ≡ paired (length (now (store .entry))) (slab .count) (slab .size) (now (order .entry)) dest src ⌝ }
-    ensures { λ r. ⌜ Left (done r) (now (store .entry)) (now (store .exit))
-        (Written (added (now (store .entry)) (start slab (now (order .entry)) dest) (symbol slab (now (order .entry)) src (now (store .entry))))
-        (now (store .entry)) (now (store .exit)) (start slab (now (order .entry)) dest) (slab .size)) ⌝ }
+    ensures { λ r. ⌜ SymbolsAdded (now (store .entry)) slab (now (order .entry)) dest src r (now (store .exit)) ⌝ }
 {
     let may = pair(store.len(), slab.count, slab.size, order, dest, src);
     let Answer::Done = may else {
@@ -177,10 +172,7 @@ pub fn mulassign_scalar(
     dest: usize,
     scalar: u8,
 ) -> Answer
-    ensures { λ r. ⌜ done r ≡ placed (length (now (store .entry))) (slab .count) (slab .size) (now (order .entry)) dest ⌝ }
-    ensures { λ r. ⌜ Left (done r) (now (store .entry)) (now (store .exit))
-        (Written (scaled scalar (symbol slab (now (order .entry)) dest (now (store .entry))))
-        (now (store .entry)) (now (store .exit)) (start slab (now (order .entry)) dest) (slab .size)) ⌝ }
+    ensures { λ r. ⌜ SymbolScaled (now (store .entry)) slab (now (order .entry)) dest scalar r (now (store .exit)) ⌝ }
 {
     let may = place(store.len(), slab.count, slab.size, order, dest);
     let Answer::Done = may else {
@@ -200,10 +192,7 @@ pub fn fma(
     src: usize,
     scalar: u8,
 ) -> Answer
-    ensures { λ r. ⌜ done r ≡ paired (length (now (store .entry))) (slab .count) (slab .size) (now (order .entry)) dest src ⌝ }
-    ensures { λ r. ⌜ Left (done r) (now (store .entry)) (now (store .exit))
-        (Written (fused (now (store .entry)) (start slab (now (order .entry)) dest) scalar (symbol slab (now (order .entry)) src (now (store .entry))))
-        (now (store .entry)) (now (store .exit)) (start slab (now (order .entry)) dest) (slab .size)) ⌝ }
+    ensures { λ r. ⌜ SymbolsFused (now (store .entry)) slab (now (order .entry)) dest src scalar r (now (store .exit)) ⌝ }
 {
     let may = pair(store.len(), slab.count, slab.size, order, dest, src);
     let Answer::Done = may else {

@@ -1,6 +1,6 @@
 -- Columns of a row of bits: one that is put, and two that change places.
 -- Assumes nothing.
-use mathlib.Core.Path.{_≡_, sym, ap, _∙_, subst}
+use mathlib.Core.Path.{_≡_, refl, sym, ap, _∙_, subst}
 use mathlib.Core.List.{List}
 use Prim.Native.Nat.{ℕ, _+_, _*_, _/_, _%_, _≤_, _<_}
 use native.Mathlib.Nat.{add-zero, zero-add}
@@ -8,12 +8,14 @@ use native.Mathlib.Decide.{ℕ-discrete, decLt}
 use native.Mathlib.Omega.{arith}
 use borrow.Author.Tests.{eq-eqb, ne-eqb, lt-ltb, le-ltb}
 use lib.Arith.{digits-div, digits-mod}
+use lib.Dec.{eqb}
 use lib.ListN.{getD}
+use Rattle.field.specs.Choice.{pick}
 use Rattle.field.specs.Runs.{Written}
 use Rattle.field.proofs.Writing.{written-same, written-is}
 use Rattle.field.proofs.Parts.{written-then}
 use Rattle.stores.specs.Bits.{bit, bitAt, withBit, moved, crossing, crossedFrom}
-use Rattle.stores.proofs.Bits.{with-self}
+use Rattle.stores.proofs.Bits.{with-self, with-same, with-other}
 use Rattle.stores.proofs.Rows.{below-row}
 
 -- column c of the row at `at` was made v
@@ -34,6 +36,19 @@ put-word xs ys at c v w k = go (ℕ-discrete k (c / 64))
         side : Dec (k < c / 64) → getD ys (at + k) 0 ≡ getD xs (at + k) 0
         side (yes l) = w .low (at + k) (omega arith)
         side (no l) = w .high (at + k) (omega arith)
+
+-- the bit of column c, when column j has become v
+pub moved-bit : (c j v w : ℕ) → v < 2 → bit (moved (c / 64) j v w) (c % 64) ≡ pick (eqb c j) v (bit w (c % 64))
+moved-bit c j v w h = go (ℕ-discrete c j) (ℕ-discrete (c / 64) (j / 64))
+  where
+    go : Dec (c ≡ j) → Dec (c / 64 ≡ j / 64) → bit (moved (c / 64) j v w) (c % 64) ≡ pick (eqb c j) v (bit w (c % 64))
+    go (yes e) d = rw (e, eq-eqb (j / 64) (j / 64) refl, eq-eqb j j refl) (with-same w (j % 64) v h)
+    go (no n) (yes d) = rw (eq-eqb (c / 64) (j / 64) d, ne-eqb c j n) (with-other w (j % 64) v (c % 64) h (λ z. n (omega arith)))
+    go (no n) (no d) = rw (ne-eqb (c / 64) (j / 64) d, ne-eqb c j n)
+
+-- each column of the row then, and of all the words behind it
+pub put-column : (xs ys : List ℕ) (at j v : ℕ) → Put xs ys at j v → v < 2 → (c : ℕ) → bitAt ys at c ≡ pick (eqb c j) v (bitAt xs at c)
+put-column xs ys at j v w h c = ap (λ (x : ℕ). bit x (c % 64)) (put-word xs ys at j v w (c / 64)) ∙ moved-bit c j v (getD xs (at + c / 64) 0) h
 
 -- the two columns of one row, each put with what the other was
 pub crossed-row : (xs ys zs : List ℕ) (at n a b : ℕ) → a / 64 < n → b / 64 < n → Put xs ys at a (bitAt xs at b) → Put ys zs at b (bitAt xs at a)

@@ -149,10 +149,10 @@ module _ (f : ℕ → ℕ) (start : ℕ) where
           ⊎-elim (λ a. subst Found (sym (a .1)) u) (λ a. subst Found (sym (a .1)) (longer (ones f start n) u)) (grown n)
 
 -- counts of what agrees are equal
-pub tally-same : (f g : ℕ → ℕ) (start n : ℕ) → ((k : ℕ) → k < n → f (start + k) ≡ g (start + k)) → tally f start n ≡ tally g start n
+pub tally-same : (f g : ℕ → ℕ) (start from n : ℕ) → ((k : ℕ) → k < n → f (start + k) ≡ g (from + k)) → tally f start n ≡ tally g from n
 unfolding tally
-tally-same f g start zero e = refl
-tally-same f g start (suc n) e = ap₂ _+_ (tally-same f g start n (λ k h. e k (omega arith))) (e n (omega arith))
+tally-same f g start from zero e = refl
+tally-same f g start from (suc n) e = ap₂ _+_ (tally-same f g start from n (λ k h. e k (omega arith))) (e n (omega arith))
 
 -- a count in two parts
 pub tally-split : (f : ℕ → ℕ) (start n m : ℕ) → tally f start (n + m) ≡ tally f start n + tally f (start + n) m

@@ -21,18 +21,9 @@ use Rattle.stores.specs.Rows.{row, packedTo, Exchanged}
 use Rattle.stores.specs.Matrix.{rowWords, wordsOf, rowAt, entry, shape}
 use Rattle.stores.specs.declared.matrix.DenseBinaryMatrix.{DenseBinaryMatrix}
 use Rattle.stores.proofs.Bits.{bit-lt, xor-bit, with-same, with-other}
-use Rattle.stores.proofs.Columns.{Put, put-word, crossed-at, crossed-before}
+use Rattle.stores.proofs.Columns.{Put, put-column, moved-bit, crossed-at, crossed-before}
 use Rattle.stores.proofs.Rows.{below-row}
 use Rattle.stores.proofs.Shapes.{row-ends}
-
--- the bit of column c, when column j has become v
-moved-bit : (c j v w : ℕ) → v < 2 → bit (moved (c / 64) j v w) (c % 64) ≡ pick (eqb c j) v (bit w (c % 64))
-moved-bit c j v w h = go (ℕ-discrete c j) (ℕ-discrete (c / 64) (j / 64))
-  where
-    go : Dec (c ≡ j) → Dec (c / 64 ≡ j / 64) → bit (moved (c / 64) j v w) (c % 64) ≡ pick (eqb c j) v (bit w (c % 64))
-    go (yes e) d = rw (e, eq-eqb (j / 64) (j / 64) refl, eq-eqb j j refl) (with-same w (j % 64) v h)
-    go (no n) (yes d) = rw (eq-eqb (c / 64) (j / 64) d, ne-eqb c j n) (with-other w (j % 64) v (c % 64) h (λ z. n (omega arith)))
-    go (no n) (no d) = rw (ne-eqb (c / 64) (j / 64) d, ne-eqb c j n)
 
 -- a word of another row lies before or after this one
 elsewhere : (r i n o : ℕ) → o < n → (r ≡ i → ⊥) → (r * n + o < i * n) ⊎ (i * n + n ≤ r * n + o)
@@ -62,7 +53,7 @@ module _ (m : DenseBinaryMatrix) (xs ys : List ℕ) where
   -- `set`: the entry that was set, and the others
   module _ (i j v : ℕ) (w : Put xs ys (rowAt m i) j v) (h : v < 2) (l : j / 64 < rowWords (m .width)) where
     in-row : (c : ℕ) → entry m ys i c ≡ pick (eqb c j) v (entry m xs i c)
-    in-row c = ap (λ (x : ℕ). bit x (c % 64)) (put-word xs ys (rowAt m i) j v w (c / 64)) ∙ moved-bit c j v (getD xs (rowAt m i + c / 64) 0) h
+    in-row = put-column xs ys (rowAt m i) j v w h
 
     pub set-entry : entry m ys i j ≡ v
     set-entry = in-row j ∙ rw (eq-eqb j j refl)

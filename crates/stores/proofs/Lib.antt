@@ -6,3 +6,4 @@ pub mod Counting
 pub mod Shapes
 pub mod Entries
 pub mod Once
+pub mod Popcount

@@ -2,11 +2,16 @@
 -- and what the others leave.
 -- Assumes nothing.
 use mathlib.Core.List.{List}
-use Prim.Native.Nat.{ℕ, _+_, _-_, _*_, _/_}
+use Prim.Native.Nat.{ℕ, _+_, _-_, _*_, _/_, _%_}
 use lib.Dec.{eqb, ltb, leb}
-use Rattle.field.specs.Answer.{Outcome, given, refused, unless, before, numberOf}
+use lib.ListN.{length, getD}
+use Rattle.field.specs.Answer.{Outcome, given, refused, unless, before, Does, done, numberOf}
 use Rattle.field.specs.Choice.{pick}
-use Rattle.stores.specs.Bits.{bitAt}
+use Rattle.field.specs.Runs.{Written, added}
+use Rattle.field.specs.declared.refusal.Answer.{Answer}
+use Rattle.stores.specs.Bits.{bitAt, withBit, crossedFrom}
+use Rattle.stores.specs.Rows.{row, packedTo, Exchanged}
+use Rattle.stores.specs.Counting.{tally, ones, AtFront}
 use Rattle.stores.specs.declared.matrix.DenseBinaryMatrix.{DenseBinaryMatrix}
 use Rattle.stores.specs.declared.matrix.Made.{Made}
 use Rattle.stores.specs.declared.matrix.Made.the-variants as Mades
@@ -71,11 +76,7 @@ spanned len m i start end = before (stored len m) (before (placed (m .height) i)
 abbrev pub listable : ℕ → DenseBinaryMatrix → ℕ → ℕ → ℕ → ℕ → ℕ → ℕ → Outcome (Unit {0})
 listable len m room n i k start end = before (stored len m) (before (roomy room start end) (before (placed n i) (ranged k start end)))
 
--- a new matrix
-abbrev pub fresh : ℕ → DenseBinaryMatrix → Outcome DenseBinaryMatrix
-fresh len m = before (stored len m) (given m)
-
--- a smaller one: too large a number is refused as such, one that grows as outside
+-- a smaller matrix: too large a number is refused as such, one that grows as outside
 abbrev pub shrinkable : ℕ → DenseBinaryMatrix → DenseBinaryMatrix → Outcome (Unit {0})
 shrinkable len m new =
     before (limited (new .height) (new .width))
@@ -83,9 +84,6 @@ shrinkable len m new =
     (unless (ltb (m .height) (new .height)) 6
     (unless (ltb (m .width) (new .width)) 6
     (given tt))))
-
-abbrev pub shrunk : ℕ → DenseBinaryMatrix → DenseBinaryMatrix → Outcome DenseBinaryMatrix
-shrunk len m new = before (shrinkable len m new) (given new)
 
 -- what the answers stand for
 abbrev pub made : Made → Outcome DenseBinaryMatrix
@@ -95,3 +93,54 @@ made (Mades.Refused why) = refused (numberOf why)
 abbrev pub counted : Count → Outcome ℕ
 counted (Counts.Ones n) = given n
 counted (Counts.Refused why) = refused (numberOf why)
+
+-- The calls. xs is the store at entry and ys at exit, r the answer.
+
+abbrev pub Cleared : List ℕ → ℕ → ℕ → Made → List ℕ → Type 0
+Cleared xs height width =
+    Does made (before (stored (length xs) (shape height width)) (given (shape height width))) xs
+    (λ ys. Written (λ k. 0) xs ys 0 (wordsOf (shape height width)))
+
+abbrev pub got : List ℕ → DenseBinaryMatrix → ℕ → ℕ → Outcome ℕ
+got xs m i j = before (paired (length xs) m (m .height) i (m .width) j) (given (entry m xs i j))
+
+abbrev pub EntrySet : List ℕ → DenseBinaryMatrix → ℕ → ℕ → ℕ → Answer → List ℕ → Type 0
+EntrySet xs m i j v =
+    Does done (paired (length xs) m (m .height) i (m .width) j) xs
+    (λ ys. Written (λ k. withBit (getD xs (rowAt m i + j / 64) 0) (j % 64) (oneOf v)) xs ys (rowAt m i + j / 64) 1)
+
+-- how many of the columns from `start` to `end` of row i are ones
+abbrev pub onesOf : List ℕ → DenseBinaryMatrix → ℕ → ℕ → ℕ → Outcome ℕ
+onesOf xs m i start end = before (spanned (length xs) m i start end) (given (tally (entry m xs i) start (end - start)))
+
+-- out is the list's memory at entry
+abbrev pub RowsListed : List ℕ → DenseBinaryMatrix → ℕ → ℕ → ℕ → List ℕ → Count → List ℕ → Type 0
+RowsListed xs m j start end out =
+    Does counted
+    (before (listable (length xs) m (length out) (m .width) j (m .height) start end) (given (length (ones (λ i. entry m xs i j) start (end - start)))))
+    out (AtFront (ones (λ i. entry m xs i j) start (end - start)) out)
+
+abbrev pub ColumnsListed : List ℕ → DenseBinaryMatrix → ℕ → ℕ → List ℕ → Count → List ℕ → Type 0
+ColumnsListed xs m i start out =
+    Does counted
+    (before (listable (length xs) m (length out) (m .height) i (m .width) start (m .width)) (given (length (ones (entry m xs i) start (m .width - start)))))
+    out (AtFront (ones (entry m xs i) start (m .width - start)) out)
+
+abbrev pub RowsSwapped : List ℕ → DenseBinaryMatrix → ℕ → ℕ → Answer → List ℕ → Type 0
+RowsSwapped xs m i j =
+    Does done (paired (length xs) m (m .height) i (m .height) j) xs (λ ys. Exchanged xs ys (rowAt m i) (rowAt m j) (rowWords (m .width)))
+
+abbrev pub ColumnsSwapped : List ℕ → DenseBinaryMatrix → ℕ → ℕ → ℕ → Answer → List ℕ → Type 0
+ColumnsSwapped xs m i j start =
+    Does done (paired (length xs) m (m .width) i (m .width) j) xs
+    (λ ys. Written (crossedFrom xs (rowWords (m .width)) i j start) xs ys 0 (wordsOf m))
+
+abbrev pub RowsAdded : List ℕ → DenseBinaryMatrix → ℕ → ℕ → Answer → List ℕ → Type 0
+RowsAdded xs m dest src =
+    Does done (summed (length xs) m dest src) xs
+    (λ ys. Written (added xs (rowAt m dest) (row xs (rowAt m src) (rowWords (m .width)))) xs ys (rowAt m dest) (rowWords (m .width)))
+
+abbrev pub Resized : List ℕ → DenseBinaryMatrix → ℕ → ℕ → Made → List ℕ → Type 0
+Resized xs m height width =
+    Does made (before (shrinkable (length xs) m (shape height width)) (given (shape height width))) xs
+    (λ ys. Written (packedTo xs (rowWords width) (rowWords (m .width))) xs ys 0 (wordsOf (shape height width)))

@@ -1,15 +1,11 @@
 // The binary matrix (matrix.rs of the crate) over lent words: a row takes ceil(width / 64) of them, column c is bit c mod 64 of
 // its word c / 64. Row operations work on whole words; `get`, the counts and the lists never read a bit past the width.
 ghost use mathlib.Core.Path.{_≡_};
-ghost use Prim.Native.Nat.{_+_, _-_, _/_, _%_, _*_, _<_};
+ghost use Prim.Native.Nat.{_-_, _<_};
 ghost use lib.Dec.{ltb};
-ghost use lib.ListN.{length, getD};
-ghost use Rattle.field.specs.Answer.{Left, before, done, given, outcome};
-ghost use Rattle.field.specs.Runs.{Written, added};
-ghost use Rattle.stores.specs.Bits.{crossedFrom, withBit};
-ghost use Rattle.stores.specs.Rows.{Exchanged, packedTo, row};
-ghost use Rattle.stores.specs.Counting.{AtFront, ones, tally};
-ghost use Rattle.stores.specs.Matrix.{counted, entry, fresh, limited, listable, made, oneOf, paired, ranged, rowAt, rowWords, shape, shrinkable, shrunk, spanned, stored, summed, wordsOf};
+ghost use Rattle.field.specs.Answer.{done, outcome};
+ghost use Rattle.stores.specs.Matrix.{Cleared, ColumnsListed, ColumnsSwapped, EntrySet, Resized, RowsAdded, RowsListed, RowsSwapped};
+ghost use Rattle.stores.specs.Matrix.{counted, got, limited, listable, oneOf, onesOf, paired, ranged, rowWords, shape, shrinkable, spanned, stored};
 use crate::beneath::lists;
 use crate::beneath::words;
 use field::octet;
@@ -169,8 +165,7 @@ fn shrink(len: usize, m: DenseBinaryMatrix, height: usize, width: usize) -> Answ
 
 // A matrix of zeros; the bits past the width are zeros too.
 pub fn new(ws: &mut [u64], height: usize, width: usize) -> Made
-    ensures { λ r. ⌜ made r ≡ fresh (length (now (ws .entry))) (shape height width) ⌝ }
-    ensures { λ r. ⌜ Left (made r) (now (ws .entry)) (now (ws .exit)) (Written (λ k. 0) (now (ws .entry)) (now (ws .exit)) 0 (wordsOf (shape height width))) ⌝ }
+    ensures { λ r. ⌜ Cleared (now (ws .entry)) height width r (now (ws .exit)) ⌝ }
 {
     let m = DenseBinaryMatrix { height, width };
     let fine = store(ws.len(), m);
@@ -196,7 +191,7 @@ pub fn width(m: DenseBinaryMatrix) -> usize
 }
 
 pub fn get(ws: &[u64], m: DenseBinaryMatrix, i: usize, j: usize) -> octet::Answer
-    ensures { λ r. ⌜ outcome r ≡ before (paired (length (now (ws .entry))) m (m .height) i (m .width) j) (given (entry m (now (ws .entry)) i j)) ⌝ }
+    ensures { λ r. ⌜ outcome r ≡ got (now (ws .entry)) m i j ⌝ }
 {
     let fine = pair(ws.len(), m, m.height, i, m.width, j);
     match fine {
@@ -214,9 +209,7 @@ fn one_of(value: u8) -> u64
 
 // 0 clears the entry, any other octet sets it.
 pub fn set(ws: &mut [u64], m: DenseBinaryMatrix, i: usize, j: usize, value: u8) -> Answer
-    ensures { λ r. ⌜ done r ≡ paired (length (now (ws .entry))) m (m .height) i (m .width) j ⌝ }
-    ensures { λ r. ⌜ Left (done r) (now (ws .entry)) (now (ws .exit))
-        (Written (λ k. withBit (getD (now (ws .entry)) (rowAt m i + j / 64) 0) (j % 64) (oneOf value)) (now (ws .entry)) (now (ws .exit)) (rowAt m i + j / 64) 1) ⌝ }
+    ensures { λ r. ⌜ EntrySet (now (ws .entry)) m i j value r (now (ws .exit)) ⌝ }
 {
     let fine = pair(ws.len(), m, m.height, i, m.width, j);
     let Answer::Done = fine else {
@@ -228,7 +221,7 @@ pub fn set(ws: &mut [u64], m: DenseBinaryMatrix, i: usize, j: usize, value: u8) 
 
 // How many of the columns from `start` to `end` of row i are ones.
 pub fn count_ones(ws: &[u64], m: DenseBinaryMatrix, i: usize, start: usize, end: usize) -> Count
-    ensures { λ r. ⌜ counted r ≡ before (spanned (length (now (ws .entry))) m i start end) (given (tally (entry m (now (ws .entry)) i) start (end - start))) ⌝ }
+    ensures { λ r. ⌜ counted r ≡ onesOf (now (ws .entry)) m i start end ⌝ }
 {
     let fine = span(ws.len(), m, i, start, end);
     match fine {
@@ -248,9 +241,7 @@ pub fn get_ones_in_column(
     end: usize,
     out: &mut [u32],
 ) -> Count
-    ensures { λ r. ⌜ counted r ≡ before (listable (length (now (ws .entry))) m (length (now (out .entry))) (m .width) j (m .height) start end) (given (length (ones (λ i. entry m (now (ws .entry)) i j) start (end - start)))) ⌝ }
-    ensures { λ r. ⌜ Left (counted r) (now (out .entry)) (now (out .exit))
-        (AtFront (ones (λ i. entry m (now (ws .entry)) i j) start (end - start)) (now (out .entry)) (now (out .exit))) ⌝ }
+    ensures { λ r. ⌜ RowsListed (now (ws .entry)) m j start end (now (out .entry)) r (now (out .exit)) ⌝ }
 {
     let fine = list(ws.len(), m, out.len(), m.width, j, m.height, start, end);
     match fine {
@@ -269,9 +260,7 @@ pub fn query_non_zero_columns(
     start: usize,
     out: &mut [u32],
 ) -> Count
-    ensures { λ r. ⌜ counted r ≡ before (listable (length (now (ws .entry))) m (length (now (out .entry))) (m .height) i (m .width) start (m .width)) (given (length (ones (entry m (now (ws .entry)) i) start (m .width - start)))) ⌝ }
-    ensures { λ r. ⌜ Left (counted r) (now (out .entry)) (now (out .exit))
-        (AtFront (ones (entry m (now (ws .entry)) i) start (m .width - start)) (now (out .entry)) (now (out .exit))) ⌝ }
+    ensures { λ r. ⌜ ColumnsListed (now (ws .entry)) m i start (now (out .entry)) r (now (out .exit)) ⌝ }
 {
     let fine = list(ws.len(), m, out.len(), m.height, i, m.width, start, m.width);
     match fine {
@@ -284,8 +273,7 @@ pub fn query_non_zero_columns(
 
 // Rows i and j change places, whole words.
 pub fn swap_rows(ws: &mut [u64], m: DenseBinaryMatrix, i: usize, j: usize) -> Answer
-    ensures { λ r. ⌜ done r ≡ paired (length (now (ws .entry))) m (m .height) i (m .height) j ⌝ }
-    ensures { λ r. ⌜ Left (done r) (now (ws .entry)) (now (ws .exit)) (Exchanged (now (ws .entry)) (now (ws .exit)) (rowAt m i) (rowAt m j) (rowWords (m .width))) ⌝ }
+    ensures { λ r. ⌜ RowsSwapped (now (ws .entry)) m i j r (now (ws .exit)) ⌝ }
 {
     let fine = pair(ws.len(), m, m.height, i, m.height, j);
     let Answer::Done = fine else {
@@ -301,9 +289,7 @@ pub fn swap_rows(ws: &mut [u64], m: DenseBinaryMatrix, i: usize, j: usize) -> An
 
 // Row `src` is added to row `dest`, whole words.
 pub fn add_assign_rows(ws: &mut [u64], m: DenseBinaryMatrix, dest: usize, src: usize) -> Answer
-    ensures { λ r. ⌜ done r ≡ summed (length (now (ws .entry))) m dest src ⌝ }
-    ensures { λ r. ⌜ Left (done r) (now (ws .entry)) (now (ws .exit))
-        (Written (added (now (ws .entry)) (rowAt m dest) (row (now (ws .entry)) (rowAt m src) (rowWords (m .width)))) (now (ws .entry)) (now (ws .exit)) (rowAt m dest) (rowWords (m .width))) ⌝ }
+    ensures { λ r. ⌜ RowsAdded (now (ws .entry)) m dest src r (now (ws .exit)) ⌝ }
 {
     let fine = pair(ws.len(), m, m.height, dest, m.height, src);
     let Answer::Done = fine else {
@@ -325,9 +311,7 @@ pub fn swap_columns(
     j: usize,
     start: usize,
 ) -> Answer
-    ensures { λ r. ⌜ done r ≡ paired (length (now (ws .entry))) m (m .width) i (m .width) j ⌝ }
-    ensures { λ r. ⌜ Left (done r) (now (ws .entry)) (now (ws .exit))
-        (Written (crossedFrom (now (ws .entry)) (rowWords (m .width)) i j start) (now (ws .entry)) (now (ws .exit)) 0 (wordsOf m)) ⌝ }
+    ensures { λ r. ⌜ ColumnsSwapped (now (ws .entry)) m i j start r (now (ws .exit)) ⌝ }
 {
     let fine = pair(ws.len(), m, m.width, i, m.width, j);
     let Answer::Done = fine else {
@@ -339,9 +323,7 @@ pub fn swap_columns(
 
 // The first rows and columns alone: the rows are packed to the front, and the words past the new end stay.
 pub fn resize(ws: &mut [u64], m: DenseBinaryMatrix, height: usize, width: usize) -> Made
-    ensures { λ r. ⌜ made r ≡ shrunk (length (now (ws .entry))) m (shape height width) ⌝ }
-    ensures { λ r. ⌜ Left (made r) (now (ws .entry)) (now (ws .exit))
-        (Written (packedTo (now (ws .entry)) (rowWords width) (rowWords (m .width))) (now (ws .entry)) (now (ws .exit)) 0 (wordsOf (shape height width))) ⌝ }
+    ensures { λ r. ⌜ Resized (now (ws .entry)) m height width r (now (ws .exit)) ⌝ }
 {
     let fine = shrink(ws.len(), m, height, width);
     match fine {

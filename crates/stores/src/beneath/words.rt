@@ -1,9 +1,9 @@
 // Rows of bits in lent words: column c of the row that begins at word `at` is bit c mod 64 of word at + c / 64.
 ghost use mathlib.Core.Path.{_≡_};
-ghost use Prim.Native.Nat.{_+_, _*_, _/_, _%_, _≤_, _<_};
+ghost use Prim.Native.Nat.{_+_, _*_, _/_, _%_, _≤_, _<_, min};
 ghost use lib.ListN.{length, getD};
 ghost use Rattle.field.specs.Runs.{Written, added};
-ghost use Rattle.stores.specs.Bits.{bitAt, crossedFrom, crossing, withBit};
+ghost use Rattle.stores.specs.Bits.{bit, bitAt, crossedFrom, crossing, withBit};
 ghost use Rattle.stores.specs.Rows.{Apart, Exchanged, packedTo, row};
 ghost use Rattle.stores.specs.Counting.{tally};
 
@@ -93,7 +93,21 @@ pub fn cross(ws: &mut [u64], at: usize, n: usize, a: usize, b: usize)
     put(ws, at, b, x);
 }
 
-// How many of the n columns from `start` on are ones.
+// How many of the m bits of a word from bit b on are ones: the bits above are shifted out.
+fn count_bits(w: u64, b: usize, m: usize) -> usize
+    requires { ⌜ (0 < m) × (b + m ≤ 64) ⌝ }
+    ensures { λ r. ⌜ r ≡ tally (bit w) b m ⌝ }
+{
+    u64::count_ones((w >> b) << (64 - m)) as usize
+}
+
+fn less(a: usize, b: usize) -> usize
+    ensures { λ r. ⌜ r ≡ min a b ⌝ }
+{
+    if a < b { a } else { b }
+}
+
+// How many of the n columns from `start` on are ones, a word at a time.
 pub fn count(ws: &[u64], at: usize, start: usize, n: usize) -> usize
     requires { ⌜ (start + n ≤ 65535) × (at + (start + n + 63) / 64 ≤ length (now ws)) ⌝ }
     ensures { λ r. ⌜ r ≡ tally (bitAt (now (ws .entry)) at) start n ⌝ }
@@ -101,8 +115,11 @@ pub fn count(ws: &[u64], at: usize, start: usize, n: usize) -> usize
     let mut ones: usize = 0;
     let mut k = 0;
     while k < n {
-        ones += get(ws, at, start + k) as usize;
-        k += 1;
+        let c = start + k;
+        let b = c % 64;
+        let m = less(64 - b, n - k);
+        ones += count_bits(ws[at + c / 64], b, m);
+        k += m;
     }
     ones
 }

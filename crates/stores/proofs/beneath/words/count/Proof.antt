@@ -1,12 +1,15 @@
--- `stores::beneath::words::count` meets its contract.
+-- `stores::beneath::words::count` meets its contract: after each turn the first k columns are counted.
 -- Assumes nothing.
-use mathlib.Core.Path.{_≡_, sym, ap, ap₂, _∙_}
-use Prim.Native.Nat.{_+_, _-_, _≤_}
+use mathlib.Core.Path.{_≡_, sym, ap, _∙_}
+use Prim.Native.Nat.{ℕ, _+_, _-_, _/_, _%_, _≤_}
 use native.Mathlib.Omega.{arith}
+use lib.ListN.{getD}
 use denote.Ref.{now}
-use Rattle.stores.specs.Bits.{bitAt}
+use Rattle.stores.specs.Bits.{bit, bitAt}
 use Rattle.stores.specs.Counting.{tally}
-use Rattle.stores.proofs.Counting.{tally-none, tally-more}
+use Rattle.stores.proofs.Bits.{bit-lt}
+use Rattle.stores.proofs.Counting.{tally-none, tally-le}
+use Rattle.stores.proofs.Popcount.{count-more}
 use borrow.Author.Needs.{needs}
 use Rattle.stores.proofs.beneath.words.count.Statement.{statement}
 use Rattle.stores.proofs.beneath.words.count.Tie as tie
@@ -17,31 +20,56 @@ Inv-loop ws at start n ones₀ k₀ ones k = (ones ≡ tally (bitAt ws at) start
 abbrev μ-loop : tie.MeasureT-loop
 μ-loop ws at start n ones₀ k₀ ones k = n - k
 
+few : (c : tie.After-count-bits Inv-loop μ-loop) → c .count-bits .result ≤ c .before .before .less .result
+few c =
+    let a = c .before .before .before .before .before .before .args in
+    let at = a .start + c .before .before .before .before .loop .k in
+    let w = getD (now (a .ws)) (a .at + at / 64) 0 in
+    omega (arith, c .count-bits .ensures, tally-le (bit w) (at % 64) (bit-lt w) (c .before .before .less .result))
+
 loop-holds : tie.Need-loop-holds Inv-loop μ-loop
 loop-holds c = (sym (tally-none _ _), omega arith, omega arith)
 
-add-get : tie.Need-add-get Inv-loop μ-loop
-add-get c = search needs
+add-c : tie.Need-add-c Inv-loop μ-loop
+add-c c = search needs
 
-get-requires : tie.Need-get-requires Inv-loop μ-loop
-get-requires c κs = search needs
+sub-less : tie.Need-sub-less Inv-loop μ-loop
+sub-less c = search needs
+
+sub-less-2 : tie.Need-sub-less-2 Inv-loop μ-loop
+sub-less-2 c = search needs
+
+less-requires : tie.Need-less-requires Inv-loop μ-loop
+less-requires c κs = search needs
+
+add-count-bits : tie.Need-add-count-bits Inv-loop μ-loop
+add-count-bits c = search needs
+
+mul-count-bits : tie.Need-mul-count-bits Inv-loop μ-loop
+mul-count-bits c = search needs
+
+shared-slice-read-count-bits : tie.Need-shared-slice-read-count-bits Inv-loop μ-loop
+shared-slice-read-count-bits c = search needs
+
+count-bits-requires : tie.Need-count-bits-requires Inv-loop μ-loop
+count-bits-requires c κs = omega (arith, c .before .less .ensures)
 
 add-ones : tie.Need-add-ones Inv-loop μ-loop
-add-ones c = omega (arith, c .get .ensures)
+add-ones c = omega (arith, few c, c .before .before .less .ensures)
 
 add-k : tie.Need-add-k Inv-loop μ-loop
-add-k c = search needs
+add-k c = omega (arith, c .before .before .less .ensures)
 
 loop-less : tie.Need-loop-less Inv-loop μ-loop
-loop-less c = search needs
+loop-less c = omega (arith, c .before .before .less .ensures)
 
 loop-again : tie.Need-loop-again Inv-loop μ-loop
 loop-again c =
-    let l = c .before .before .loop in
-    let a = c .before .before .before .before .args in (
-      ap₂ _+_ (l .inv .0) (c .get .ensures) ∙ sym (tally-more (bitAt (now (a .ws)) (a .at)) (a .start) (l .k)),
-      omega (arith, c .get .ensures),
-      omega arith,
+    let l = c .before .before .before .before .loop in
+    let a = c .before .before .before .before .before .before .args in (
+      count-more (now (a .ws)) (a .at) (a .start) (l .k) (c .before .before .less .result) (l .ones) (c .count-bits .result) (l .inv .0) (c .count-bits .ensures) (omega (arith, c .before .before .less .ensures)),
+      omega (arith, few c),
+      omega (arith, c .before .before .less .ensures),
     )
 
 returns : tie.Need-returns Inv-loop μ-loop
@@ -54,8 +82,14 @@ count-spec =
     Inv-loop
     μ-loop
     loop-holds
-    add-get
-    get-requires
+    add-c
+    sub-less
+    sub-less-2
+    less-requires
+    add-count-bits
+    mul-count-bits
+    shared-slice-read-count-bits
+    count-bits-requires
     add-ones
     add-k
     loop-less
