@@ -8,3 +8,4 @@ pub mod Product
 pub mod Joins
 pub mod Closed
 pub mod Marks
+pub mod Accepted

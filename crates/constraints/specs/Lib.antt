@@ -4,3 +4,4 @@ pub mod Encoding
 pub mod Ldpc
 pub mod Hdpc
 pub mod Grid
+pub mod Answers
