@@ -1,0 +1,172 @@
+-- `constraints::beneath::hdpc::generate_hdpc_rows` meets its contract: the columns from c on are filled, first those of the identity, then the
+-- powers of alpha, then each from the one to its right.
+-- Assumes nothing.
+use mathlib.Core.Path.{sym, ap₂}
+use Prim.Native.Nat.{ℕ, _+_, _-_, _%_, _<_, _≤_}
+use native.Mathlib.Omega.{arith}
+use borrow.Author.Needs.{needs}
+use Rattle.constraints.specs.Grid.{Filled}
+use Rattle.constraints.specs.Hdpc.{hdpc, first, second}
+use Rattle.constraints.proofs.Grid.{filled-more, filled-self, filled-trans, filled-all}
+use Rattle.constraints.proofs.Product.{hdpc-unit, hdpc-last, next-is}
+use Rattle.constraints.proofs.beneath.hdpc.generate_hdpc_rows.Statement.{statement}
+use Rattle.constraints.proofs.beneath.hdpc.generate_hdpc_rows.Tie as tie
+
+abbrev Inv-loop : tie.InvT-loop
+Inv-loop tables out₀ at n h l c₀ out c = (n ≤ c) × (c ≤ n + h) × Filled (hdpc tables n h) out₀ out at h (n + h) c
+
+abbrev μ-loop : tie.MeasureT-loop
+μ-loop tables out₀ at n h l c₀ out c = c
+
+abbrev Inv-loop2 : tie.InvT-loop2
+Inv-loop2 tables out₀ at n h l c₀ out c = (c < n) × Filled (hdpc tables n h) out₀ out at h (n + h) c
+
+abbrev μ-loop2 : tie.MeasureT-loop2
+μ-loop2 tables out₀ at n h l c₀ out c = c
+
+add-l : tie.Need-add-l Inv-loop μ-loop Inv-loop2 μ-loop2
+add-l c = search needs
+
+loop-holds : tie.Need-loop-holds Inv-loop μ-loop Inv-loop2 μ-loop2
+loop-holds c = search needs
+
+sub-c : tie.Need-sub-c Inv-loop μ-loop Inv-loop2 μ-loop2
+sub-c c = search needs
+
+sub-unit-column : tie.Need-sub-unit-column Inv-loop μ-loop Inv-loop2 μ-loop2
+sub-unit-column c = search needs
+
+unit-column-requires : tie.Need-unit-column-requires Inv-loop μ-loop Inv-loop2 μ-loop2
+unit-column-requires c κs = search needs
+
+loop-less : tie.Need-loop-less Inv-loop μ-loop Inv-loop2 μ-loop2
+loop-less c = search needs
+
+loop-again : tie.Need-loop-again Inv-loop μ-loop Inv-loop2 μ-loop2
+loop-again c = (
+  omega arith,
+  omega arith,
+  filled-more (c .before .before .before .before .before .loop .inv .2) (omega arith) (omega arith) (c .before .before .unit-column .ensures)
+      (λ r h. sym (hdpc-unit _ _ _ _ _ (omega arith))),
+)
+
+sub-c-2 : tie.Need-sub-c-2 Inv-loop μ-loop Inv-loop2 μ-loop2
+sub-c-2 c = search needs
+
+alpha-column-requires : tie.Need-alpha-column-requires Inv-loop μ-loop Inv-loop2 μ-loop2
+alpha-column-requires c κs = search needs
+
+abbrev entry : tie.After-slice-known3 Inv-loop μ-loop Inv-loop2 μ-loop2 → tie.Start Inv-loop μ-loop Inv-loop2 μ-loop2
+entry c = c .before .before .before .before .before .before .before .before
+
+-- with the column of the powers of alpha
+after-alpha : (c : tie.After-slice-known3 Inv-loop μ-loop Inv-loop2 μ-loop2)
+    → Filled (hdpc (entry c .args .tables .now) (entry c .args .n) (entry c .args .h)) (entry c .args .out .now) (c .before .before .alpha-column .last .0)
+    (entry c .args .at) (entry c .args .h) (entry c .args .n + entry c .args .h) (c .before .before .before .before .before .loop .c - 1)
+after-alpha c =
+    filled-more (c .before .before .before .before .before .loop .inv .2) (omega arith) (omega arith) (c .before .before .alpha-column .ensures)
+    (λ r h. sym (hdpc-last _ _ _ _ _ (omega arith)))
+
+loop2-holds : tie.Need-loop2-holds Inv-loop μ-loop Inv-loop2 μ-loop2
+loop2-holds c = (omega arith, filled-self (after-alpha c))
+
+sub-c-3 : tie.Need-sub-c-3 Inv-loop μ-loop Inv-loop2 μ-loop2
+sub-c-3 c = search needs
+
+add-y : tie.Need-add-y Inv-loop μ-loop Inv-loop2 μ-loop2
+add-y c = search needs
+
+cast-y : tie.Need-cast-y Inv-loop μ-loop Inv-loop2 μ-loop2
+cast-y c = search needs
+
+cast-rand : tie.Need-cast-rand Inv-loop μ-loop Inv-loop2 μ-loop2
+cast-rand c = search needs
+
+rand-requires : tie.Need-rand-requires Inv-loop μ-loop Inv-loop2 μ-loop2
+rand-requires c κs = search needs
+
+cast-a : tie.Need-cast-a Inv-loop μ-loop Inv-loop2 μ-loop2
+cast-a c = search needs
+
+sub-rand : tie.Need-sub-rand Inv-loop μ-loop Inv-loop2 μ-loop2
+sub-rand c = search needs
+
+cast-rand-2 : tie.Need-cast-rand-2 Inv-loop μ-loop Inv-loop2 μ-loop2
+cast-rand-2 c = search needs
+
+rand-requires-2 : tie.Need-rand-requires-2 Inv-loop μ-loop Inv-loop2 μ-loop2
+rand-requires-2 c κs = search needs
+
+cast-b : tie.Need-cast-b Inv-loop μ-loop Inv-loop2 μ-loop2
+cast-b c = search needs
+
+add-b : tie.Need-add-b Inv-loop μ-loop Inv-loop2 μ-loop2
+add-b c = search needs
+
+add-b-2 : tie.Need-add-b-2 Inv-loop μ-loop Inv-loop2 μ-loop2
+add-b-2 c = search needs
+
+rem-b : tie.Need-rem-b Inv-loop μ-loop Inv-loop2 μ-loop2
+rem-b c = search needs
+
+next-column-requires : tie.Need-next-column-requires Inv-loop μ-loop Inv-loop2 μ-loop2
+next-column-requires c κs = search needs
+
+loop2-less : tie.Need-loop2-less Inv-loop μ-loop Inv-loop2 μ-loop2
+loop2-less c = search needs
+
+loop2-again : tie.Need-loop2-again Inv-loop μ-loop Inv-loop2 μ-loop2
+unfolding first second
+loop2-again c =
+    let s = c .before .before .before .before .before .before .before in
+    let e = c .before .before .before .before .before in
+    let a = s .before .before .before .before .before .before .before .before .before .args in (
+      omega arith,
+      filled-more (s .loop2 .inv .1) (omega arith) (omega arith) (c .before .before .next-column .ensures)
+          (λ r h.
+          next-is _ _ _ _ (s .loop2 .inv .1) (omega arith) (omega arith) (omega arith) h (e .rand .ensures .0)
+          (ap₂ (λ (x y : ℕ). (x + y + 1) % a .h) (e .rand .ensures .0) (c .before .before .before .before .rand2 .ensures .0))),
+    )
+
+same-length : tie.Need-same-length Inv-loop μ-loop Inv-loop2 μ-loop2
+same-length c = search needs
+
+returns : tie.Need-returns Inv-loop μ-loop Inv-loop2 μ-loop2
+returns c = filled-all (filled-trans (after-alpha (c .before .before)) (c .before .loop2 .inv .1)) (omega arith) (omega arith)
+
+pub generate-hdpc-rows-spec : {M : Type 1} → statement M
+generate-hdpc-rows-spec =
+    tie.close
+    (tie.spec
+    Inv-loop
+    μ-loop
+    Inv-loop2
+    μ-loop2
+    add-l
+    loop-holds
+    sub-c
+    sub-unit-column
+    unit-column-requires
+    loop-less
+    loop-again
+    sub-c-2
+    alpha-column-requires
+    loop2-holds
+    sub-c-3
+    add-y
+    cast-y
+    cast-rand
+    rand-requires
+    cast-a
+    sub-rand
+    cast-rand-2
+    rand-requires-2
+    cast-b
+    add-b
+    add-b-2
+    rem-b
+    next-column-requires
+    loop2-less
+    loop2-again
+    same-length
+    returns)

@@ -1,0 +1,73 @@
+// The HDPC rows, row after row in a lent store, filled column by column from the right: each column is alpha times the next,
+// with two ones more. A product of MT with GAMMA would take n times as long.
+ghost use mathlib.Core.Path.{_≡_};
+ghost use Prim.Native.Nat.{_+_, _*_, _<_, _≤_};
+ghost use lib.ListN.{length, getD};
+ghost use Rattle.field.specs.Octet.{plus, doubled, power};
+ghost use Rattle.field.specs.Runs.{Written};
+ghost use Rattle.field.specs.Sum.{unit};
+ghost use Rattle.constraints.specs.Grid.{Room, Column, cells};
+ghost use Rattle.constraints.specs.Hdpc.{hdpc};
+use crate::beneath::unit::unit;
+use field::doubling;
+use headers::beneath::rng;
+
+fn unit_column(out: &mut [u8], at: usize, h: usize, l: usize, c: usize, one: usize)
+    requires { ⌜ Room (now out) at h l c ⌝ }
+    ensures { λ _. ⌜ Column (λ r. unit r one) (now (out .entry)) (now (out .exit)) at h l c ⌝ }
+{
+    let mut i = 0;
+    while i < h {
+        out[at + i * l + c] = unit(i, one);
+        i += 1;
+    }
+}
+
+// The powers of alpha.
+fn alpha_column(out: &mut [u8], at: usize, h: usize, l: usize, c: usize)
+    requires { ⌜ Room (now out) at h l c ⌝ }
+    ensures { λ _. ⌜ Column power (now (out .entry)) (now (out .exit)) at h l c ⌝ }
+{
+    let mut x: u8 = 1;
+    let mut i = 0;
+    while i < h {
+        out[at + i * l + c] = x;
+        x = doubling::double(x);
+        i += 1;
+    }
+}
+
+// Alpha times the column to the right, with a one more in rows a and b.
+fn next_column(out: &mut [u8], at: usize, h: usize, l: usize, c: usize, a: usize, b: usize)
+    requires { ⌜ Room (now out) at h l (c + 1) ⌝ }
+    ensures { λ _. ⌜ Column (λ r. plus (plus (doubled (getD (now (out .entry)) (at + r * l + c + 1) 0)) (unit r a)) (unit r b)) (now (out .entry)) (now (out .exit)) at h l c ⌝ }
+{
+    let mut i = 0;
+    while i < h {
+        let j = at + i * l + c;
+        out[j] = doubling::double(out[j + 1]) ^ unit(i, a) ^ unit(i, b);
+        i += 1;
+    }
+}
+
+// H rows of n + H octets from place `at` on, where n is K' + S.
+pub fn generate_hdpc_rows(tables: &[u32], out: &mut [u8], at: usize, n: usize, h: usize)
+    requires { ⌜ (length (now tables) ≡ 1024) × (1 ≤ n) × (2 ≤ h) × (n + h ≤ 65535) × (at + h * (n + h) ≤ length (now out)) ⌝ }
+    ensures { λ _. ⌜ Written (cells (n + h) (hdpc (now (tables .entry)) n h)) (now (out .entry)) (now (out .exit)) at (h * (n + h)) ⌝ }
+{
+    let l = n + h;
+    let mut c = l;
+    while n < c {
+        c -= 1;
+        unit_column(out, at, h, l, c, c - n);
+    }
+    c -= 1;
+    alpha_column(out, at, h, l, c);
+    while 0 < c {
+        c -= 1;
+        let y = (c + 1) as u32;
+        let a = rng::rand(tables, y, 6, h as u32) as usize;
+        let b = (a + rng::rand(tables, y, 7, (h - 1) as u32) as usize + 1) % h;
+        next_column(out, at, h, l, c, a, b);
+    }
+}

@@ -1,0 +1,95 @@
+// What a caller asks of the constraint rows (constraint_matrix.rs of the crate).
+ghost use Prim.Native.Nat.{_<_};
+ghost use Rattle.headers.specs.Told.{Told};
+ghost use Rattle.headers.specs.Tuples.{Bounds};
+ghost use Rattle.constraints.specs.Answers.{Rows, Walked};
+use crate::beneath::hdpc;
+use crate::beneath::walk;
+use field::refusal::Refusal;
+use headers::beneath::row;
+use headers::number::Number;
+use headers::row::Row;
+use headers::tuple::Tuple;
+use headers::writing::Writing;
+
+fn bounded(w: u32, p1: u32, t: Tuple) -> bool
+    requires { ⌜ w < 65536 ⌝ }
+    ensures { λ r. ⌜ Told r (Bounds w p1 t) ⌝ }
+{
+    let d = t.d;
+    if d < 1 {
+        return false;
+    }
+    if d > 30 {
+        return false;
+    }
+    if d + 2 > w {
+        return false;
+    }
+    let a = t.a;
+    if a < 1 {
+        return false;
+    }
+    if a >= w {
+        return false;
+    }
+    if t.b >= w {
+        return false;
+    }
+    let d1 = t.d1;
+    if d1 < 2 {
+        return false;
+    }
+    if d1 > 3 {
+        return false;
+    }
+    let a1 = t.a1;
+    if a1 < 1 {
+        return false;
+    }
+    if a1 >= p1 {
+        return false;
+    }
+    if t.b1 >= p1 {
+        return false;
+    }
+    true
+}
+
+// The places of a tuple of any origin, in walk order; the answer is how many were written.
+pub fn enc_indices(r: Row, t: Tuple, list: &mut [u32]) -> Number
+    ensures { λ a. ⌜ Walked r t (now (list .entry)) (now (list .exit)) a ⌝ }
+{
+    if !row::obeys(r) {
+        return Number::Refused(Refusal::BadRow);
+    }
+    let p1 = row::p1(r);
+    if !bounded(r.w, p1, t) {
+        return Number::Refused(Refusal::OutOfRange);
+    }
+    let n = t.d + t.d1;
+    if list.len() < n as usize {
+        return Number::Refused(Refusal::WrongLength);
+    }
+    walk::enc_indices(t, r.w, row::p(r), p1, list);
+    Number::Value(n)
+}
+
+// H rows of L octets, row after row.
+pub fn generate_hdpc_rows(r: Row, tables: &[u32], out: &mut [u8]) -> Writing
+    ensures { λ a. ⌜ Rows (now (tables .entry)) r (now (out .entry)) (now (out .exit)) a ⌝ }
+{
+    if !row::obeys(r) {
+        return Writing::Refused(Refusal::BadRow);
+    }
+    if tables.len() != 1024 {
+        return Writing::Refused(Refusal::BadTables);
+    }
+    let n = (r.k + r.s) as usize;
+    let h = r.h as usize;
+    if out.len() < h * (n + h) {
+        return Writing::Refused(Refusal::WrongLength);
+    }
+    hdpc::generate_hdpc_rows(tables, out, 0, n, h);
+    Writing::Done
+}
