@@ -6,19 +6,16 @@ use mathlib.Core.List.{List}
 use Prim.Native.Nat.{ℕ, _+_, _-_, _*_}
 use lib.Dec.{eqb, leb, ltb}
 use lib.ListN.{length}
-use Rattle.field.specs.Answer.{Outcome, given, unless}
+use Rattle.field.specs.Answer.{Outcome, Left, done, given, unless}
 use Rattle.field.specs.Choice.{both}
 use Rattle.field.specs.Runs.{Written}
 use Rattle.headers.specs.Bytes.{Laid}
-use Rattle.headers.specs.Headers.{writingOutcome}
 use Rattle.headers.specs.Number.{outcome}
 use Rattle.headers.specs.Row.{obeys, between, lOf, pOf, p1Of}
+use Rattle.field.specs.declared.refusal.Answer as Plain
 use Rattle.headers.specs.declared.number.Number.{Number}
-use Rattle.headers.specs.declared.number.Number.the-variants as Numbers
 use Rattle.headers.specs.declared.row.Row.{Row}
 use Rattle.headers.specs.declared.tuple.Tuple.{Tuple}
-use Rattle.headers.specs.declared.writing.Writing.{Writing}
-use Rattle.headers.specs.declared.writing.Writing.the-variants as Writings
 use Rattle.constraints.specs.Grid.{cells}
 use Rattle.constraints.specs.Hdpc.{hdpcOf}
 use Rattle.constraints.specs.Walk.{places}
@@ -43,13 +40,9 @@ indices r t room =
     unless (not (obeys r)) 4 (unless (not (bounded (r .w) (p1Of r) t)) 2 (unless (ltb room (t .d + t .d1)) 8 (given (t .d + t .d1))))
 
 -- the places at the front of the list, or the list as it was
-abbrev pub Listed : List ℕ → List ℕ → List ℕ → Number → Type 0
-Listed ps xs ys (Numbers.Value n) = Laid ps xs ys 0
-Listed ps xs ys (Numbers.Refused why) = ys ≡ xs
-
 pub record Walked (r : Row) (t : Tuple) (xs ys : List ℕ) (a : Number) : Type 0 where
   pub answer : outcome a ≡ indices r t (length xs)
-  pub memory : Listed (placesOf r t) xs ys a
+  pub memory : Left (outcome a) xs ys (Laid (placesOf r t) xs ys 0)
 
 -- may the HDPC rows be written? A row that breaks its rules, tables that are not 1,024 numbers, too short a store
 abbrev pub hdpcRoom : Row → ℕ → ℕ → Outcome (Unit {0})
@@ -57,10 +50,6 @@ hdpcRoom r tables room =
     unless (not (obeys r)) 4 (unless (not (eqb tables 1024)) 5 (unless (ltb room (r .h * lOf r)) 8 (given tt)))
 
 -- H rows of L octets at the front of the store, or the store as it was
-abbrev pub Generated : List ℕ → Row → List ℕ → List ℕ → Writing → Type 0
-Generated v r xs ys Writings.Done = Written (cells (lOf r) (hdpcOf v r)) xs ys 0 (r .h * lOf r)
-Generated v r xs ys (Writings.Refused why) = ys ≡ xs
-
-pub record Rows (v : List ℕ) (r : Row) (xs ys : List ℕ) (a : Writing) : Type 0 where
-  pub answer : writingOutcome a ≡ hdpcRoom r (length v) (length xs)
-  pub memory : Generated v r xs ys a
+pub record Rows (v : List ℕ) (r : Row) (xs ys : List ℕ) (a : Plain.Answer) : Type 0 where
+  pub answer : done a ≡ hdpcRoom r (length v) (length xs)
+  pub memory : Left (done a) xs ys (Written (cells (lOf r) (hdpcOf v r)) xs ys 0 (r .h * lOf r))

@@ -5,12 +5,12 @@ ghost use Rattle.headers.specs.Tuples.{Bounds};
 ghost use Rattle.constraints.specs.Answers.{Rows, Walked};
 use crate::beneath::hdpc;
 use crate::beneath::walk;
+use field::refusal;
 use field::refusal::Refusal;
 use headers::beneath::row;
 use headers::number::Number;
 use headers::row::Row;
 use headers::tuple::Tuple;
-use headers::writing::Writing;
 
 fn bounded(w: u32, p1: u32, t: Tuple) -> bool
     requires { ⌜ w < 65536 ⌝ }
@@ -76,20 +76,20 @@ pub fn enc_indices(r: Row, t: Tuple, list: &mut [u32]) -> Number
 }
 
 // H rows of L octets, row after row.
-pub fn generate_hdpc_rows(r: Row, tables: &[u32], out: &mut [u8]) -> Writing
+pub fn generate_hdpc_rows(r: Row, tables: &[u32], out: &mut [u8]) -> refusal::Answer
     ensures { λ a. ⌜ Rows (now (tables .entry)) r (now (out .entry)) (now (out .exit)) a ⌝ }
 {
     if !row::obeys(r) {
-        return Writing::Refused(Refusal::BadRow);
+        return refusal::Answer::Refused(Refusal::BadRow);
     }
     if tables.len() != 1024 {
-        return Writing::Refused(Refusal::BadTables);
+        return refusal::Answer::Refused(Refusal::BadTables);
     }
     let n = (r.k + r.s) as usize;
     let h = r.h as usize;
     if out.len() < h * (n + h) {
-        return Writing::Refused(Refusal::WrongLength);
+        return refusal::Answer::Refused(Refusal::WrongLength);
     }
     hdpc::generate_hdpc_rows(tables, out, 0, n, h);
-    Writing::Done
+    refusal::Answer::Done
 }
