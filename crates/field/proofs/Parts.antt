@@ -2,8 +2,9 @@
 -- Assumes nothing.
 use mathlib.Core.Path.{_≡_, sym, ap, _∙_}
 use mathlib.Core.List.{List, _++_}
-use Prim.Native.Nat.{ℕ, _+_, _-_, _≤_, _<_}
-use native.Mathlib.Nat.{add-sub-cancel-left}
+use mathlib.Core.Logic.{_⊎_, inl, inr}
+use Prim.Native.Nat.{ℕ, _+_, _-_, _*_, _≤_, _<_}
+use native.Mathlib.Nat.{add-sub-cancel-left, mul-le-mul-right}
 use native.Mathlib.Decide.{decLt}
 use native.Mathlib.Omega.{arith}
 use lib.ListN.{length, getD, take, drop, length-append, length-drop, List·getD-append}
@@ -108,3 +109,17 @@ copied xs old new from n h e =
     ap (λ (l : List ℕ). take n l) e
     ∙ take-at _ _ n (ap length (take-length (take (from + n - from) (drop from xs))) ∙ ap length (part-is xs from n) ∙ part-length xs from n h)
     ∙ take-length (take (from + n - from) (drop from xs)) ∙ part-is xs from n
+
+-- block i of n places ends within n blocks
+pub block-ends : {i m : ℕ} (n : ℕ) → i < m → i * n + n ≤ m * n
+block-ends {i} {m} n h =
+    let l : (i + 1) * n ≤ m * n = mul-le-mul-right n (omega arith) in
+    omega arith
+
+-- two blocks that differ do not meet
+pub blocks-apart : (i j n : ℕ) → (i ≡ j → ⊥) → (i * n + n ≤ j * n) ⊎ (j * n + n ≤ i * n)
+blocks-apart i j n d = go (decLt i j)
+  where
+    go : Dec (i < j) → (i * n + n ≤ j * n) ⊎ (j * n + n ≤ i * n)
+    go (yes l) = inl (block-ends n l)
+    go (no l) = inr (block-ends n (omega (arith, d)))

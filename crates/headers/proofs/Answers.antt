@@ -6,7 +6,7 @@ use Prim.Native.Nat.{ℕ}
 use lib.ListN.{length, getD}
 use Rattle.field.specs.Answer.{Outcome, done, numberOf}
 use Rattle.field.proofs.Answers.{given-only, refused-only, given-not-refused, number-only}
-use Rattle.field.proofs.Refusals.{settles-written, done-only}
+use Rattle.field.proofs.Refusals.{settled-written, done-only}
 use Rattle.headers.specs.Headers.{Stores, idOutcome, infoOutcome, headOutcome, packetOutcome}
 use Rattle.headers.specs.Partition.{partitionOutcome}
 use Rattle.field.specs.declared.refusal.Answer as Plain
@@ -22,7 +22,7 @@ use Rattle.headers.specs.declared.partition.Answer as Parts
 module _ {o : Outcome (Unit {0})} {bs xs ys zs : List ℕ} where
   pub stores-only : {p q : Plain.Answer} → Stores o bs xs ys p → Stores o bs xs zs q → (p ≡ q) × (ys ≡ zs)
   stores-only {p} {q} u v =
-      settles-written done o xs (λ k. getD bs k 0) 0 (length bs) done-only p q ys zs (u .answer, u .memory) (v .answer, v .memory)
+      settled-written done done-only o xs (λ k. getD bs k 0) 0 (length bs) p q ys zs (u .answer, u .memory) (v .answer, v .memory)
 
 pub id-only : (p q : Ids.Answer) → idOutcome p ≡ idOutcome q → p ≡ q
 id-only (Ids.the-variants.Id a) (Ids.the-variants.Id b) e = ap Ids.the-variants.Id (given-only a b e)

@@ -3,21 +3,19 @@
 use mathlib.Core.Path.{_≡_, sym, ap, _∙_}
 use mathlib.Core.Bool.{false}
 use mathlib.Core.List.{List, []}
-use mathlib.Core.Logic.{_⊎_, inl, inr}
 use Prim.Native.Nat.{ℕ, _+_, _-_, _*_, _≤_, _<_}
-use native.Mathlib.Nat.{mul-le-mul-right}
 use native.Mathlib.Decide.{ℕ-discrete, decLt}
 use native.Mathlib.Omega.{arith}
 use borrow.Author.Tests.{ltb-false, leb-false, eqb-false, ne-eqb}
 use lib.Dec.{eqb, ltb, leb}
 use lib.ListN.{length, getD, drop, length-take, length-drop}
 use lib.Seq.{ext-getD}
-use Rattle.field.specs.Runs.{Written}
-use Rattle.field.proofs.Parts.{part-at}
+use Rattle.field.specs.Runs.{Written, Apart, part}
+use Rattle.field.proofs.Parts.{part-at, block-ends, blocks-apart}
 use Rattle.field.specs.Answer.{Outcome, given}
 use Rattle.field.specs.declared.refusal.Refusal.{Refusal}
 use Rattle.field.proofs.Answers.{given-only}
-use Rattle.slab.specs.Slab.{Apart, Reached, physical, strange, placed, paired, located, part, range, shown}
+use Rattle.slab.specs.Slab.{Reached, physical, strange, placed, paired, located, range, shown}
 use Rattle.slab.specs.declared.symbol_slab.Range.{Range}
 use Rattle.slab.specs.declared.symbol_slab.Range.the-variants as Ranges
 use Rattle.field.proofs.Refusals.{passed, passed-before}
@@ -74,21 +72,12 @@ paired-well len count t order dest src e =
       differ = eqb-false _ _ (c .0);
     }
 
--- symbol p of n ends within n symbols
-pub inside : {p n : ℕ} (t : ℕ) → p < n → p * t + t ≤ n * t
-inside {p} {n} t h =
-    let l : (p + 1) * t ≤ n * t = mul-le-mul-right t (omega arith) in
-    omega arith
-
 pub ends : {len count t : ℕ} {order : List ℕ} {i : ℕ} → Placed len count t order i → physical order i * t + t ≤ len
-ends {len} {count} {t} p = omega (arith, inside t (p .there), p .room)
+ends {len} {count} {t} p = omega (arith, block-ends t (p .there), p .room)
 
 pub apart : {len count t : ℕ} {order : List ℕ} {dest src : ℕ} → Paired len count t order dest src → Apart len t (physical order dest * t) (physical order src * t)
-apart {len} {count} {t} {order} {dest} {src} p = record { to-in = ends (p .to); from-in = ends (p .from); apart = go (decLt (physical order dest) (physical order src)) }
-  where
-    go : Dec (physical order dest < physical order src) → (physical order dest * t + t ≤ physical order src * t) ⊎ (physical order src * t + t ≤ physical order dest * t)
-    go (yes l) = inl (inside t l)
-    go (no l) = inr (inside t (omega (arith, p .differ)))
+apart {len} {count} {t} {order} {dest} {src} p =
+    record { to-in = ends (p .to); from-in = ends (p .from); apart = blocks-apart (physical order dest) (physical order src) t (p .differ) }
 
 -- the range that is told lies in the store, and holds the symbol
 pub located-well : (len count t : ℕ) (order : List ℕ) (i begin end : ℕ) → located len count t order i ≡ given (begin, end) → (begin ≤ end) × (end ≤ len)
@@ -117,8 +106,8 @@ module _ {f : ℕ → ℕ} {xs ys : List ℕ} (p t : ℕ) (w : Written f xs ys (
       long = simp (length-take, length-drop, w .size)
 
       go : (k : ℕ) → k < t → Dec (q < p) → getD (part ys (q * t) t) k 0 ≡ getD (part xs (q * t) t) k 0
-      go k h (yes l) = let e = inside t l in part-at ys (q * t) t k h ∙ w .low (q * t + k) (omega arith) ∙ sym (part-at xs (q * t) t k h)
+      go k h (yes l) = let e = block-ends t l in part-at ys (q * t) t k h ∙ w .low (q * t + k) (omega arith) ∙ sym (part-at xs (q * t) t k h)
       go k h (no l) =
           let r : p < q = omega (arith, d) in
-          let e = inside t r in
+          let e = block-ends t r in
           part-at ys (q * t) t k h ∙ w .high (q * t + k) (omega arith) ∙ sym (part-at xs (q * t) t k h)

@@ -8,10 +8,9 @@ use native.Mathlib.Nat.{add-sub-cancel-left}
 use native.Mathlib.Omega.{arith}
 use lib.ListN.{length, getD, take, drop}
 use lib.Seq.{length-take-le}
-use Rattle.field.specs.Runs.{Written}
+use Rattle.field.specs.Runs.{Written, Apart, part}
 use Rattle.field.proofs.Writing.{written-is}
 use Rattle.field.proofs.Parts.{splice, part-length, part-is, part-at, written-part, written-then, copied}
-use Rattle.slab.specs.Slab.{Apart, part}
 
 -- the bytes of a symbol, each with the byte of another at the same place
 abbrev pub mixed : (ℕ → ℕ → ℕ) → List ℕ → ℕ → List ℕ → ℕ → ℕ

@@ -3,29 +3,18 @@
 use mathlib.Core.Path.{_≡_}
 use mathlib.Core.Bool.{Bool, not}
 use mathlib.Core.List.{List, []}
-use mathlib.Core.Logic.{_⊎_}
-use Prim.Native.Nat.{ℕ, _+_, _-_, _*_, _≤_, _<_}
+use Prim.Native.Nat.{ℕ, _+_, _-_, _*_, _<_}
 use lib.Dec.{eqb, ltb, leb}
-use lib.ListN.{length, getD, take, drop}
+use lib.ListN.{length, getD}
 use Rattle.field.specs.Answer.{Outcome, given, refused, unless, before, Does, done, numberOf}
 use Rattle.field.specs.Choice.{pick, both}
-use Rattle.field.specs.Runs.{Written, added, fused, scaled}
+use Rattle.field.specs.Runs.{Written, part, added, fused, scaled}
 use Rattle.field.specs.declared.refusal.Answer.{Answer}
 use Rattle.slab.specs.declared.symbol_slab.SymbolSlab.{SymbolSlab}
 use Rattle.slab.specs.declared.symbol_slab.Made.{Made}
 use Rattle.slab.specs.declared.symbol_slab.Made.the-variants as Mades
 use Rattle.slab.specs.declared.symbol_slab.Range.{Range}
 use Rattle.slab.specs.declared.symbol_slab.Range.the-variants as Ranges
-
--- n bytes from `from` on
-abbrev pub part : List ℕ → ℕ → ℕ → List ℕ
-part xs from n = take n (drop from xs)
-
--- both symbols of t bytes lie inside, and do not meet
-pub record Apart (len t to from : ℕ) : Type 0 where
-  pub to-in : to + t ≤ len
-  pub from-in : from + t ≤ len
-  pub apart : (to + t ≤ from) ⊎ (from + t ≤ to)
 
 -- where an order puts symbol i; an order of length 0 is none
 abbrev pub physical : List ℕ → ℕ → ℕ

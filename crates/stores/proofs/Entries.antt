@@ -1,12 +1,12 @@
 -- Entry by entry, what the operations on a binary matrix leave: over the contracts' words, and of every column that the row's
 -- words hold, the bits past the width too.
 -- Assumes nothing.
-use mathlib.Core.Path.{_≡_, refl, sym, ap, ap₂, _∙_}
+use mathlib.Core.Path.{_≡_, refl, sym, ap, _∙_}
 use mathlib.Core.List.{List}
 use mathlib.Core.Logic.{_⊎_, inl, inr, ⊎-elim}
 use Prim.Native.Nat.{ℕ, _+_, _*_, _/_, _%_, _^_, _≤_, _<_}
 use native.Mathlib.Nat.{zero-add, zero-div}
-use native.Mathlib.Decide.{ℕ-discrete, decLt}
+use native.Mathlib.Decide.{ℕ-discrete}
 use native.Mathlib.Omega.{arith}
 use borrow.Author.Tests.{eq-eqb, ne-eqb}
 use lib.Arith.{digits-div, digits-mod}
@@ -14,24 +14,18 @@ use lib.Dec.{eqb}
 use lib.ListN.{getD}
 use Rattle.field.specs.Choice.{pick}
 use Rattle.field.specs.Octet.{plus}
-use Rattle.field.specs.Runs.{Written, added}
-use Rattle.field.proofs.Parts.{part-at}
-use Rattle.stores.specs.Bits.{bit, bitAt, withBit, moved, crossing, crossedFrom}
-use Rattle.stores.specs.Rows.{row, packedTo, Exchanged}
+use Rattle.field.specs.Runs.{Written, added, part}
+use Rattle.field.proofs.Parts.{part-at, block-ends, blocks-apart}
+use Rattle.stores.specs.Bits.{bit, moved, crossing, crossedFrom}
+use Rattle.stores.specs.Rows.{packedTo, Exchanged}
 use Rattle.stores.specs.Matrix.{rowWords, wordsOf, rowAt, entry, shape}
 use Rattle.stores.specs.declared.matrix.DenseBinaryMatrix.{DenseBinaryMatrix}
-use Rattle.stores.proofs.Bits.{bit-lt, xor-bit, with-same, with-other}
+use Rattle.stores.proofs.Bits.{bit-lt, xor-bit}
 use Rattle.stores.proofs.Columns.{Put, put-column, moved-bit, crossed-at, crossed-before}
-use Rattle.stores.proofs.Rows.{below-row}
-use Rattle.stores.proofs.Shapes.{row-ends}
 
 -- a word of another row lies before or after this one
 elsewhere : (r i n o : ℕ) → o < n → (r ≡ i → ⊥) → (r * n + o < i * n) ⊎ (i * n + n ≤ r * n + o)
-elsewhere r i n o h d = go (decLt r i)
-  where
-    go : Dec (r < i) → (r * n + o < i * n) ⊎ (i * n + n ≤ r * n + o)
-    go (yes l) = let e = row-ends n l in inl (omega arith)
-    go (no l) = let q : i < r = omega (arith, d) in let e = row-ends n q in inr (omega arith)
+elsewhere r i n o h d = ⊎-elim (λ a. inl (omega arith)) (λ a. inr (omega arith)) (blocks-apart r i n d)
 
 module _ (m : DenseBinaryMatrix) (xs ys : List ℕ) where
   pub entry-lt : (r c : ℕ) → entry m xs r c < 2
@@ -43,7 +37,7 @@ module _ (m : DenseBinaryMatrix) (xs ys : List ℕ) where
   -- `new`: every entry is 0
   pub new-entry : Written (λ k. 0) xs ys 0 (wordsOf m) → (r c : ℕ) → r < m .height → c / 64 < rowWords (m .width) → entry m ys r c ≡ 0
   new-entry w r c h l =
-      let e = row-ends (rowWords (m .width)) h in
+      let e = block-ends (rowWords (m .width)) h in
       ap (λ (i : ℕ). bit (getD ys i 0) (c % 64)) (sym (zero-add (rowAt m r + c / 64)))
       ∙ ap (λ (x : ℕ). bit x (c % 64)) (w .part (rowAt m r + c / 64) (omega arith)) ∙ none (c % 64)
     where
@@ -66,11 +60,11 @@ module _ (m : DenseBinaryMatrix) (xs ys : List ℕ) where
         go (no n) = same-word r r c (⊎-elim (λ a. w .low _ (omega arith)) (λ a. w .high _ (omega arith)) (elsewhere r i (rowWords (m .width)) (c / 64) k n))
 
   -- `add_assign_rows`: each entry of the sum is the sum of the entries, and the other rows stay
-  module _ (dest src : ℕ) (w : Written (added xs (rowAt m dest) (row xs (rowAt m src) (rowWords (m .width)))) xs ys (rowAt m dest) (rowWords (m .width))) where
+  module _ (dest src : ℕ) (w : Written (added xs (rowAt m dest) (part xs (rowAt m src) (rowWords (m .width)))) xs ys (rowAt m dest) (rowWords (m .width))) where
     pub sum-entry : (c : ℕ) → c / 64 < rowWords (m .width) → entry m ys dest c ≡ plus (entry m xs dest c) (entry m xs src c)
     sum-entry c h =
         ap (λ (x : ℕ). bit x (c % 64)) (w .part (c / 64) h)
-        ∙ xor-bit (getD xs (rowAt m dest + c / 64) 0) (getD (row xs (rowAt m src) (rowWords (m .width))) (c / 64) 0) (c % 64)
+        ∙ xor-bit (getD xs (rowAt m dest + c / 64) 0) (getD (part xs (rowAt m src) (rowWords (m .width))) (c / 64) 0) (c % 64)
         ∙ ap (λ (x : ℕ). plus (entry m xs dest c) (bit x (c % 64))) (part-at xs (rowAt m src) (rowWords (m .width)) (c / 64) h)
 
     pub sum-other : (r c : ℕ) → c / 64 < rowWords (m .width) → (r ≡ dest → ⊥) → entry m ys r c ≡ entry m xs r c
@@ -94,7 +88,7 @@ module _ (m : DenseBinaryMatrix) (xs ys : List ℕ) where
   module _ (a b start : ℕ) (w : Written (crossedFrom xs (rowWords (m .width)) a b start) xs ys 0 (wordsOf m)) where
     word : (r c : ℕ) → r < m .height → c / 64 < rowWords (m .width) → getD ys (rowAt m r + c / 64) 0 ≡ crossedFrom xs (rowWords (m .width)) a b start (rowAt m r + c / 64)
     word r c h l =
-        let e = row-ends (rowWords (m .width)) h in
+        let e = block-ends (rowWords (m .width)) h in
         ap (λ (i : ℕ). getD ys i 0) (sym (zero-add (rowAt m r + c / 64))) ∙ w .part (rowAt m r + c / 64) (omega arith)
 
     pub crossed-entry : (r c : ℕ) → start ≤ r → r < m .height → c / 64 < rowWords (m .width)
@@ -116,7 +110,7 @@ module _ (m : DenseBinaryMatrix) (xs ys : List ℕ) where
   pub packed-entry : (height width : ℕ) → Written (packedTo xs (rowWords width) (rowWords (m .width))) xs ys 0 (wordsOf (shape height width))
       → (r c : ℕ) → r < height → c / 64 < rowWords width → entry (shape height width) ys r c ≡ entry m xs r c
   packed-entry height width w r c h l =
-      let e = row-ends (rowWords width) h in
+      let e = block-ends (rowWords width) h in
       ap (λ (x : ℕ). bit x (c % 64))
       (ap (λ (i : ℕ). getD ys i 0) (sym (zero-add (r * rowWords width + c / 64))) ∙ w .part (r * rowWords width + c / 64) (omega arith)
       ∙ simp (digits-div r l, digits-mod r l))

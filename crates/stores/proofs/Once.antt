@@ -5,12 +5,12 @@ use mathlib.Core.List.{List}
 use Prim.Native.Nat.{ℕ, _+_, _-_, _/_, _%_}
 use lib.ListN.{length, getD}
 use Rattle.field.specs.Answer.{numberOf, done, outcome}
-use Rattle.field.specs.Runs.{added}
+use Rattle.field.specs.Runs.{added, part}
 use Rattle.field.specs.declared.octet.Answer.{Answer}
 use Rattle.field.proofs.Answers.{given-only, given-not-refused, refused-only, number-only, outcome-only}
 use Rattle.field.proofs.Refusals.{Settled, settled, settled-written, done-only}
 use Rattle.stores.specs.Bits.{withBit, crossedFrom}
-use Rattle.stores.specs.Rows.{Exchanged, row, packedTo}
+use Rattle.stores.specs.Rows.{Exchanged, packedTo}
 use Rattle.stores.specs.Counting.{ones}
 use Rattle.stores.specs.Matrix.{made, counted, entry, shape, rowAt, rowWords, wordsOf, oneOf, got, onesOf, Cleared, EntrySet, RowsListed, ColumnsListed, RowsSwapped, ColumnsSwapped, RowsAdded, Resized}
 use Rattle.stores.specs.declared.matrix.DenseBinaryMatrix.{DenseBinaryMatrix}
@@ -64,7 +64,7 @@ module _ (xs : List ℕ) (m : DenseBinaryMatrix) where
 
   pub add-assign-rows-once : (dest src : ℕ) → Settled (RowsAdded xs m dest src)
   add-assign-rows-once dest src =
-      settled-written done done-only _ xs (added xs (rowAt m dest) (row xs (rowAt m src) (rowWords (m .width)))) (rowAt m dest) (rowWords (m .width))
+      settled-written done done-only _ xs (added xs (rowAt m dest) (part xs (rowAt m src) (rowWords (m .width)))) (rowAt m dest) (rowWords (m .width))
 
   pub resize-once : (height width : ℕ) → Settled (Resized xs m height width)
   resize-once height width = settled-written made made-only _ xs (packedTo xs (rowWords width) (rowWords (m .width))) 0 (wordsOf (shape height width))

@@ -11,14 +11,14 @@ use lib.Arith.{digits-div, digits-mod}
 use lib.ListN.{length, getD, set, length-set}
 use lib.Seq.{getD-set-same, getD-set-other, ext-getD}
 use Rattle.field.specs.Octet.{plus}
-use Rattle.field.specs.Runs.{Written, added}
+use Rattle.field.specs.Runs.{Written, added, part, Apart}
 use Rattle.field.proofs.Writing.{written-next, written-same, written-is}
 use Rattle.field.proofs.Parts.{part-at, written-then}
-use Rattle.stores.specs.Rows.{row, packedTo, Apart, Exchanged}
+use Rattle.stores.specs.Rows.{packedTo, Exchanged}
 
 -- the next word of a sum: neither row has changed there yet
-pub sum-next : {xs ys : List ℕ} {to from n k : ℕ} → Written (added xs to (row xs from n)) xs ys to k → Apart (length xs) n to from → k < n
-    → plus (getD ys (to + k) 0) (getD ys (from + k) 0) ≡ added xs to (row xs from n) k
+pub sum-next : {xs ys : List ℕ} {to from n k : ℕ} → Written (added xs to (part xs from n)) xs ys to k → Apart (length xs) n to from → k < n
+    → plus (getD ys (to + k) 0) (getD ys (from + k) 0) ≡ added xs to (part xs from n) k
 sum-next {xs} {ys} {to} {from} {n} {k} w a h =
     ap₂ plus (written-next w)
     (⊎-elim (λ u. w .high (from + k) (omega arith)) (λ u. w .low (from + k) (omega arith)) (a .apart) ∙ sym (part-at xs from n k h))

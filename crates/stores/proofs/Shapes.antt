@@ -1,18 +1,17 @@
 -- A binary matrix in its store: what a call that is not refused knows of its places.
 -- Assumes nothing.
 use mathlib.Core.Path.{_≡_}
-use mathlib.Core.Logic.{_⊎_, inl, inr}
 use Prim.Native.Nat.{ℕ, _+_, _-_, _*_, _/_, _≤_, _<_}
 use native.Mathlib.Nat.{mul-le-mul-right}
-use native.Mathlib.Decide.{decLt}
 use native.Mathlib.Omega.{arith}
 use borrow.Author.Tests.{ltb-false, leb-false}
 use lib.Dec.{eqb, ltb, leb}
 use mathlib.Core.Bool.{Bool, true, false}
+use Rattle.field.proofs.Parts.{block-ends, blocks-apart}
+use Rattle.field.specs.Runs.{Apart}
 use Rattle.field.specs.Choice.{pick}
 use Rattle.field.specs.Answer.{given}
 use Rattle.field.proofs.Refusals.{passed, passed-before}
-use Rattle.stores.specs.Rows.{Apart}
 use Rattle.stores.specs.Matrix.{rowWords, wordsOf, rowAt, oneOf, limited, stored, placed, ranged, roomy, paired, spanned, listable, shrinkable}
 use Rattle.stores.specs.declared.matrix.DenseBinaryMatrix.{DenseBinaryMatrix}
 
@@ -52,14 +51,8 @@ paired-well len m n i k j e =
 pub column-word : (width j : ℕ) → j < width → j / 64 < rowWords width
 column-word width j h = omega arith
 
--- row i ends within n rows
-pub row-ends : {i n : ℕ} (w : ℕ) → i < n → i * w + w ≤ n * w
-row-ends {i} {n} w h =
-    let l : (i + 1) * w ≤ n * w = mul-le-mul-right w (omega arith) in
-    omega arith
-
 pub row-in : {len : ℕ} {m : DenseBinaryMatrix} {i : ℕ} → Stored len m → i < m .height → rowAt m i + rowWords (m .width) ≤ len
-row-in {len} {m} {i} s h = omega (arith, row-ends (rowWords (m .width)) h, s .room)
+row-in {len} {m} {i} s h = omega (arith, block-ends (rowWords (m .width)) h, s .room)
 
 pub word-in : {len : ℕ} {m : DenseBinaryMatrix} {i j : ℕ} → Paired len m (m .height) i (m .width) j → rowAt m i + j / 64 < len
 word-in {len} {m} {i} {j} p = omega (arith, row-in (p .store) (p .first), column-word (m .width) j (p .second))
@@ -67,11 +60,8 @@ word-in {len} {m} {i} {j} p = omega (arith, row-in (p .store) (p .first), column
 -- two rows that differ do not meet
 pub apart : {len : ℕ} {m : DenseBinaryMatrix} {i j : ℕ} → Paired len m (m .height) i (m .height) j → (i ≡ j → ⊥)
     → Apart len (rowWords (m .width)) (rowAt m i) (rowAt m j)
-apart {len} {m} {i} {j} p d = record { to-in = row-in (p .store) (p .first); from-in = row-in (p .store) (p .second); apart = go (decLt i j) }
-  where
-    go : Dec (i < j) → (rowAt m i + rowWords (m .width) ≤ rowAt m j) ⊎ (rowAt m j + rowWords (m .width) ≤ rowAt m i)
-    go (yes l) = inl (row-ends (rowWords (m .width)) l)
-    go (no l) = inr (row-ends (rowWords (m .width)) (omega (arith, d)))
+apart {len} {m} {i} {j} p d =
+    record { to-in = row-in (p .store) (p .first); from-in = row-in (p .store) (p .second); apart = blocks-apart i j (rowWords (m .width)) d }
 
 pub ranged-well : (n start end : ℕ) → ranged n start end ≡ given tt → (start ≤ end) × (end ≤ n)
 ranged-well n start end e =

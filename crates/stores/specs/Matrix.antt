@@ -7,10 +7,10 @@ use lib.Dec.{eqb, ltb, leb}
 use lib.ListN.{length, getD}
 use Rattle.field.specs.Answer.{Outcome, given, refused, unless, before, Does, done, numberOf}
 use Rattle.field.specs.Choice.{pick}
-use Rattle.field.specs.Runs.{Written, added}
+use Rattle.field.specs.Runs.{Written, part, added}
 use Rattle.field.specs.declared.refusal.Answer.{Answer}
 use Rattle.stores.specs.Bits.{bitAt, withBit, crossedFrom}
-use Rattle.stores.specs.Rows.{row, packedTo, Exchanged}
+use Rattle.stores.specs.Rows.{packedTo, Exchanged}
 use Rattle.stores.specs.Counting.{tally, ones, AtFront}
 use Rattle.stores.specs.declared.matrix.DenseBinaryMatrix.{DenseBinaryMatrix}
 use Rattle.stores.specs.declared.matrix.Made.{Made}
@@ -138,7 +138,7 @@ ColumnsSwapped xs m i j start =
 abbrev pub RowsAdded : List ℕ → DenseBinaryMatrix → ℕ → ℕ → Answer → List ℕ → Type 0
 RowsAdded xs m dest src =
     Does done (summed (length xs) m dest src) xs
-    (λ ys. Written (added xs (rowAt m dest) (row xs (rowAt m src) (rowWords (m .width)))) xs ys (rowAt m dest) (rowWords (m .width)))
+    (λ ys. Written (added xs (rowAt m dest) (part xs (rowAt m src) (rowWords (m .width)))) xs ys (rowAt m dest) (rowWords (m .width)))
 
 abbrev pub Resized : List ℕ → DenseBinaryMatrix → ℕ → ℕ → Made → List ℕ → Type 0
 Resized xs m height width =

@@ -4,21 +4,11 @@ use mathlib.Core.Path.{_≡_}
 use mathlib.Core.List.{List}
 use mathlib.Core.Logic.{_⊎_}
 use Prim.Native.Nat.{ℕ, _+_, _*_, _/_, _%_, _≤_, _<_}
-use lib.ListN.{length, getD, take, drop}
-
--- the n words from `at` on
-abbrev pub row : List ℕ → ℕ → ℕ → List ℕ
-row ws at n = take n (drop at ws)
+use lib.ListN.{length, getD}
 
 -- word k when rows of `old` words have been packed to rows of their first n
 abbrev pub packedTo : List ℕ → ℕ → ℕ → ℕ → ℕ
 packedTo ws n old k = getD ws (k / n * old + k % n) 0
-
--- both rows of n words lie inside, and do not meet
-pub record Apart (len n to from : ℕ) : Type 0 where
-  pub to-in : to + n ≤ len
-  pub from-in : from + n ≤ len
-  pub apart : (to + n ≤ from) ⊎ (from + n ≤ to)
 
 -- ys is xs, but that the n words at i and the n words at j have changed places
 pub record Exchanged (xs ys : List ℕ) (i j n : ℕ) : Type 0 where

@@ -2,8 +2,7 @@
 // slab is copied out by chunks, since one slab is not lent twice.
 ghost use Prim.Native.Nat.{_+_, _≤_, _<_};
 ghost use lib.ListN.{length};
-ghost use Rattle.field.specs.Runs.{Written, added, fused, scaled};
-ghost use Rattle.slab.specs.Slab.{Apart, part};
+ghost use Rattle.field.specs.Runs.{Apart, Written, added, fused, part, scaled};
 
 fn chunk_len(left: usize) -> usize
     ensures { λ r. ⌜ (r ≤ 256) × (r ≤ left) × (0 < left → 0 < r) ⌝ }

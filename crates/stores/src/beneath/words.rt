@@ -2,9 +2,9 @@
 ghost use mathlib.Core.Path.{_≡_};
 ghost use Prim.Native.Nat.{_+_, _*_, _/_, _%_, _≤_, _<_, min};
 ghost use lib.ListN.{length, getD};
-ghost use Rattle.field.specs.Runs.{Written, added};
+ghost use Rattle.field.specs.Runs.{Apart, Written, added, part};
 ghost use Rattle.stores.specs.Bits.{bit, bitAt, crossedFrom, crossing, withBit};
-ghost use Rattle.stores.specs.Rows.{Apart, Exchanged, packedTo, row};
+ghost use Rattle.stores.specs.Rows.{Exchanged, packedTo};
 ghost use Rattle.stores.specs.Counting.{tally};
 
 pub fn get(ws: &[u64], at: usize, c: usize) -> u64
@@ -41,7 +41,7 @@ pub fn clear(ws: &mut [u64], n: usize)
 // The n words at `to` become their sums with those at `from`.
 pub fn add(ws: &mut [u64], n: usize, to: usize, from: usize)
     requires { ⌜ Apart (length (now ws)) n to from ⌝ }
-    ensures { λ _. ⌜ Written (added (now (ws .entry)) to (row (now (ws .entry)) from n)) (now (ws .entry)) (now (ws .exit)) to n ⌝ }
+    ensures { λ _. ⌜ Written (added (now (ws .entry)) to (part (now (ws .entry)) from n)) (now (ws .entry)) (now (ws .exit)) to n ⌝ }
 {
     let mut k = 0;
     while k < n {

@@ -6,9 +6,8 @@ use native.Mathlib.Omega.{arith}
 use borrow.Author.Needs.{needs}
 use lib.Seq.{length-take-le}
 use Rattle.field.specs.Octet.{plus}
-use Rattle.field.specs.Runs.{Written, added}
+use Rattle.field.specs.Runs.{Written, added, part}
 use Rattle.field.proofs.Writing.{written-none, written-is}
-use Rattle.slab.specs.Slab.{part}
 use Rattle.slab.proofs.Symbols.{room, turn}
 use Rattle.slab.proofs.beneath.symbols.add.Statement.{statement}
 use Rattle.slab.proofs.beneath.symbols.add.Tie as tie

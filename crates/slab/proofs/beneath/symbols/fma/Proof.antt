@@ -6,9 +6,8 @@ use native.Mathlib.Omega.{arith}
 use borrow.Author.Needs.{needs}
 use lib.Seq.{length-take-le}
 use Rattle.field.specs.Octet.{plus, times}
-use Rattle.field.specs.Runs.{Written, fused}
+use Rattle.field.specs.Runs.{Written, fused, part}
 use Rattle.field.proofs.Writing.{written-none, written-is}
-use Rattle.slab.specs.Slab.{part}
 use Rattle.slab.proofs.Symbols.{room, turn}
 use Rattle.slab.proofs.beneath.symbols.fma.Statement.{statement}
 use Rattle.slab.proofs.beneath.symbols.fma.Tie as tie

@@ -2,16 +2,15 @@
 -- Assumes nothing.
 use Prim.Native.Nat.{_-_, _≤_}
 use native.Mathlib.Omega.{arith}
-use Rattle.field.specs.Runs.{Written, added}
+use Rattle.field.specs.Runs.{Written, added, part}
 use Rattle.field.proofs.Writing.{written-none, written-more, written-is}
-use Rattle.stores.specs.Rows.{row}
 use Rattle.stores.proofs.Rows.{sum-next}
 use borrow.Author.Needs.{needs}
 use Rattle.stores.proofs.beneath.words.add.Statement.{statement}
 use Rattle.stores.proofs.beneath.words.add.Tie as tie
 
 abbrev Inv-loop : tie.InvT-loop
-Inv-loop ws₀ n to from k₀ ws k = Written (added ws₀ to (row ws₀ from n)) ws₀ ws to k × (k ≤ n)
+Inv-loop ws₀ n to from k₀ ws k = Written (added ws₀ to (part ws₀ from n)) ws₀ ws to k × (k ≤ n)
 
 abbrev μ-loop : tie.MeasureT-loop
 μ-loop ws₀ n to from k₀ ws k = n - k

@@ -3,9 +3,9 @@
 use mathlib.Core.Path.{ap}
 use Prim.Native.Nat.{ℕ, _-_, _*_, _≤_}
 use native.Mathlib.Omega.{arith}
+use Rattle.field.proofs.Parts.{block-ends}
 use Rattle.field.specs.Runs.{Written}
 use Rattle.field.proofs.Writing.{written-is}
-use Rattle.stores.proofs.Shapes.{row-ends}
 use Rattle.stores.specs.Bits.{crossedFrom}
 use Rattle.stores.proofs.Columns.{crossed-none, crossed-more}
 use borrow.Author.Needs.{needs}
@@ -25,10 +25,10 @@ loop-holds : tie.Need-loop-holds Inv-loop μ-loop
 loop-holds c = let a = c .before .before .args in (crossed-none _ (a .n) (a .a) (a .b) (a .start) (a .start) (omega arith), omega arith, omega arith)
 
 mul-cross : tie.Need-mul-cross Inv-loop μ-loop
-mul-cross c = omega (arith, row-ends (c .before .before .before .before .before .args .n) (c .before .loop-test .taken))
+mul-cross c = omega (arith, block-ends (c .before .before .before .before .before .args .n) (c .before .loop-test .taken))
 
 cross-requires : tie.Need-cross-requires Inv-loop μ-loop
-cross-requires c κs = let p = c .before .before .before .before .before .pre in (p .0, p .1, omega (arith, row-ends (c .before .before .before .before .before .args .n) (c .before .loop-test .taken), c .before .before .loop .inv .0 .size))
+cross-requires c κs = let p = c .before .before .before .before .before .pre in (p .0, p .1, omega (arith, block-ends (c .before .before .before .before .before .args .n) (c .before .loop-test .taken), c .before .before .loop .inv .0 .size))
 
 add-r : tie.Need-add-r Inv-loop μ-loop
 add-r c = search needs

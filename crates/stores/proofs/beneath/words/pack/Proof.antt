@@ -4,9 +4,9 @@ use mathlib.Core.Path.{_≡_, ap}
 use Prim.Native.Nat.{ℕ, _-_, _*_, _≤_}
 use native.Mathlib.Nat.{mul-le-mul-left}
 use native.Mathlib.Omega.{arith}
+use Rattle.field.proofs.Parts.{block-ends}
 use Rattle.field.specs.Runs.{Written}
 use Rattle.field.proofs.Writing.{written-none, written-is}
-use Rattle.stores.proofs.Shapes.{row-ends}
 use Rattle.stores.specs.Rows.{packedTo}
 use Rattle.stores.proofs.Rows.{packed-same, packed-more}
 use borrow.Author.Needs.{needs}
@@ -26,13 +26,13 @@ loop-holds : tie.Need-loop-holds Inv-loop μ-loop
 loop-holds c = let z : 0 * c .before .before .args .n ≡ 0 = omega arith in (rw z (written-none _ _ _), omega arith)
 
 mul-move-down : tie.Need-mul-move-down Inv-loop μ-loop
-mul-move-down c = omega (arith, row-ends (c .before .before .before .before .before .args .old) (c .before .loop-test .taken), mul-le-mul-left (c .before .before .loop .r) (c .before .before .before .before .before .pre .0))
+mul-move-down c = omega (arith, block-ends (c .before .before .before .before .before .args .old) (c .before .loop-test .taken), mul-le-mul-left (c .before .before .loop .r) (c .before .before .before .before .before .pre .0))
 
 mul-move-down-2 : tie.Need-mul-move-down-2 Inv-loop μ-loop
-mul-move-down-2 c = omega (arith, row-ends (c .before .before .before .before .before .args .old) (c .before .loop-test .taken))
+mul-move-down-2 c = omega (arith, block-ends (c .before .before .before .before .before .args .old) (c .before .loop-test .taken))
 
 move-down-requires : tie.Need-move-down-requires Inv-loop μ-loop
-move-down-requires c κs = (mul-le-mul-left (c .before .before .loop .r) (c .before .before .before .before .before .pre .0), omega (arith, row-ends (c .before .before .before .before .before .args .old) (c .before .loop-test .taken), c .before .before .loop .inv .0 .size))
+move-down-requires c κs = (mul-le-mul-left (c .before .before .loop .r) (c .before .before .before .before .before .pre .0), omega (arith, block-ends (c .before .before .before .before .before .args .old) (c .before .loop-test .taken), c .before .before .loop .inv .0 .size))
 
 add-r : tie.Need-add-r Inv-loop μ-loop
 add-r c = search needs
