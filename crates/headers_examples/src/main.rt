@@ -1,5 +1,8 @@
-// The examples of layer 2 that are run: the header program's work on each file of data/, and partitions.
+// The examples of layer 2 that are run: the header program's work on each file of data/, partitions, degrees, and y of a tuple.
 use header_text::beneath;
+use headers::beneath::tuple;
+use headers::deg;
+use headers::number::Number;
 use headers::partition;
 use libc::STDOUT_FILENO;
 
@@ -70,9 +73,33 @@ fn partitions() {
     parts(4294967295, 4294967295);
 }
 
+fn degree(v: u32, w: u32) {
+    number(b"deg ", v);
+    number(b"W ", w);
+    let answer = deg::deg(v, w);
+    match answer {
+        Number::Value(d) => number(b"is ", d),
+        Number::Refused(why) => number(b"refused ", field::refusal::number(why)),
+    }
+}
+
+// Of the first row of Table 2, whose J is 254, X = 1 gives y = 2924914.
+fn degrees() {
+    degree(5242, 100);
+    degree(5243, 100);
+    degree(1017661, 100);
+    degree(1048575, 100);
+    degree(1048575, 17);
+    degree(1048576, 100);
+    degree(0, 2);
+    degree(0, 1);
+    number(b"y ", tuple::seed(254, 1));
+}
+
 fn main() {
     accepted();
     refused_3();
     refused_8();
     partitions();
+    degrees();
 }

@@ -19,7 +19,7 @@ fn factor(j: u32) -> u32
 }
 
 // y
-fn seed(j: u32, x: u32) -> u32
+pub fn seed(j: u32, x: u32) -> u32
     requires { ⌜ j < 65536 ⌝ }
     ensures { λ y. ⌜ y ≡ seed j x ⌝ }
 {
