@@ -8,7 +8,7 @@ use Rattle.field.specs.Answer.{numberOf, done}
 use Rattle.field.specs.Runs.{added, fused, scaled}
 use Rattle.field.proofs.Answers.{given-only, given-not-refused, refused-only, number-only}
 use Rattle.field.proofs.Refusals.{Settled, settled-written, done-only}
-use Rattle.slab.specs.Slab.{made, range, located, shown, start, symbol, Zeroed, SymbolsAdded, SymbolScaled, SymbolsFused}
+use Rattle.slab.specs.Slab.{made, range, located, shown, start, symbol, Zeroed, SymbolsAdded, SymbolScaled, SymbolsFused, placed}
 use Rattle.slab.specs.declared.symbol_slab.SymbolSlab.{SymbolSlab}
 use Rattle.slab.specs.declared.symbol_slab.Made.{Made}
 use Rattle.slab.specs.declared.symbol_slab.Made.the-variants as Mades
@@ -37,8 +37,8 @@ module _ (xs : List ℕ) (slab : SymbolSlab) (order : List ℕ) where
       → range b ≡ located len (slab .count) (slab .size) order i → a ≡ b
   locate-once len i a b p q = range-only a b (p ∙ sym q)
 
-  pub get-once : (i : ℕ) (ys zs : List ℕ) → ys ≡ shown (located (length xs) (slab .count) (slab .size) order i) xs
-      → zs ≡ shown (located (length xs) (slab .count) (slab .size) order i) xs → ys ≡ zs
+  pub get-once : (i : ℕ) (ys zs : List ℕ) → ys ≡ shown (placed (length xs) (slab .count) (slab .size) order i) (symbol slab order i xs)
+      → zs ≡ shown (placed (length xs) (slab .count) (slab .size) order i) (symbol slab order i xs) → ys ≡ zs
   get-once i ys zs p q = p ∙ sym q
 
   pub add-assign-once : (dest src : ℕ) → Settled (SymbolsAdded xs slab order dest src)

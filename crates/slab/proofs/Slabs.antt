@@ -1,6 +1,6 @@
 -- Symbols of a slab: what a call that is not refused knows of its places.
 -- Assumes nothing.
-use mathlib.Core.Path.{_≡_, sym, ap, _∙_}
+use mathlib.Core.Path.{_≡_, sym, ap, _∙_, refl}
 use mathlib.Core.Bool.{false}
 use mathlib.Core.List.{List, []}
 use Prim.Native.Nat.{ℕ, _+_, _-_, _*_, _≤_, _<_}
@@ -10,11 +10,12 @@ use borrow.Author.Tests.{ltb-false, leb-false, eqb-false, ne-eqb}
 use lib.Dec.{eqb, ltb, leb}
 use lib.ListN.{length, getD, drop, length-take, length-drop}
 use lib.Seq.{ext-getD}
+use native.Mathlib.Nat.{add-sub-cancel-left}
 use Rattle.field.specs.Runs.{Written, Apart, part}
 use Rattle.field.proofs.Parts.{part-at, block-ends, blocks-apart}
-use Rattle.field.specs.Answer.{Outcome, given}
+use Rattle.field.specs.Answer.{Outcome, given, refused, before, numberOf}
 use Rattle.field.specs.declared.refusal.Refusal.{Refusal}
-use Rattle.field.proofs.Answers.{given-only}
+use Rattle.field.proofs.Answers.{given-only, given-not-refused}
 use Rattle.slab.specs.Slab.{Reached, physical, strange, placed, paired, located, range, shown}
 use Rattle.slab.specs.declared.symbol_slab.Range.{Range}
 use Rattle.slab.specs.declared.symbol_slab.Range.the-variants as Ranges
@@ -87,12 +88,23 @@ located-well len count t order i begin end e =
     let q = given-only (physical order i * t, physical order i * t + t) (begin, end) (a .2) in
     omega (arith, ends w, ap (λ (r : ℕ × ℕ). r .0) q, ap (λ (r : ℕ × ℕ). r .1) q)
 
-module _ (xs : List ℕ) {o : Outcome (ℕ × ℕ)} (r : Range) (q : range r ≡ o) where
-  pub shown-bytes : (begin end : ℕ) → r ≡ Ranges.Bytes begin end → part xs begin (end - begin) ≡ shown o xs
-  shown-bytes begin end e = sym (ap (λ (p : Outcome (ℕ × ℕ)). shown p xs) (sym q) ∙ ap (λ (y : Range). shown (range y) xs) e)
+-- a range is told exactly where the symbol is shown
+module _ (xs : List ℕ) (len count t : ℕ) (order : List ℕ) (i : ℕ) (r : Range) (q : range r ≡ located len count t order i) where
+  pub shown-bytes : (begin end : ℕ) → r ≡ Ranges.Bytes begin end
+      → part xs begin (end - begin) ≡ shown (placed len count t order i) (part xs (physical order i * t) t)
+  shown-bytes begin end e =
+      let p = physical order i * t in
+      let a = passed-before (placed len count t order i) _ (begin, end) (sym q ∙ ap range e) in
+      let s = given-only (p, p + t) (begin, end) (a .2) in
+      ap (λ (u : ℕ × ℕ). part xs (u .0) (u .1 - u .0)) (sym s) ∙ ap (part xs p) (add-sub-cancel-left p t)
+      ∙ ap (λ (o : Outcome (Unit {0})). shown o (part xs p t)) (sym (a .1))
 
-  pub shown-none : (why : Refusal) → r ≡ Ranges.Refused why → [] ≡ shown o xs
-  shown-none why e = sym (ap (λ (p : Outcome (ℕ × ℕ)). shown p xs) (sym q) ∙ ap (λ (y : Range). shown (range y) xs) e)
+  pub shown-none : (why : Refusal) (l : List ℕ) → r ≡ Ranges.Refused why → [] ≡ shown (placed len count t order i) l
+  shown-none why l e = go (placed len count t order i) (sym q ∙ ap range e)
+    where
+      go : (o : Outcome (Unit {0})) → before {B = ℕ × ℕ} o (given (physical order i * t, physical order i * t + t)) ≡ refused (numberOf why) → [] ≡ shown o l
+      go (given u) z = absurd (given-not-refused _ _ z)
+      go (refused n) z = refl
 
 -- the bytes of the physical symbol that was written, and that no other has changed
 module _ {f : ℕ → ℕ} {xs ys : List ℕ} (p t : ℕ) (w : Written f xs ys (p * t) t) where

@@ -3,7 +3,7 @@
 use mathlib.Core.Path.{_≡_}
 use mathlib.Core.Bool.{Bool, not}
 use mathlib.Core.List.{List, []}
-use Prim.Native.Nat.{ℕ, _+_, _-_, _*_, _<_}
+use Prim.Native.Nat.{ℕ, _+_, _*_, _<_}
 use lib.Dec.{eqb, ltb, leb}
 use lib.ListN.{length, getD}
 use Rattle.field.specs.Answer.{Outcome, given, refused, unless, before, Does, done, numberOf}
@@ -61,10 +61,10 @@ abbrev pub range : Range → Outcome (ℕ × ℕ)
 range (Ranges.Bytes start end) = given (start, end)
 range (Ranges.Refused why) = refused (numberOf why)
 
--- the bytes there; none where the call is refused
-abbrev pub shown : Outcome (ℕ × ℕ) → List ℕ → List ℕ
-shown (given r) xs = part xs (r .0) (r .1 - r .0)
-shown (refused n) xs = []
+-- what a call shows: nothing where it is refused
+abbrev pub shown : Outcome (Unit {0}) → List ℕ → List ℕ
+shown (given u) l = l
+shown (refused n) l = []
 
 abbrev pub made : Made → Outcome SymbolSlab
 made (Mades.Slab slab) = given slab

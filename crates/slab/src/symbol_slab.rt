@@ -4,7 +4,7 @@ ghost use mathlib.Core.Path.{_≡_};
 ghost use lib.ListN.{length};
 ghost use Rattle.field.specs.Answer.{done};
 ghost use Rattle.slab.specs.Slab.{Reached, SymbolScaled, SymbolsAdded, SymbolsFused, Zeroed};
-ghost use Rattle.slab.specs.Slab.{located, paired, physical, placed, range, shown, strange};
+ghost use Rattle.slab.specs.Slab.{located, paired, physical, placed, range, shown, strange, symbol};
 use crate::beneath::symbols;
 use field::refusal::Answer;
 use field::refusal::Refusal;
@@ -131,7 +131,7 @@ pub fn locate(len: usize, slab: SymbolSlab, order: &[u32], i: usize) -> Range
 
 // The bytes of symbol i; the empty part at the front where `locate` refuses.
 pub fn get<'a>(store: &'a [u8], slab: SymbolSlab, order: &[u32], i: usize) -> &'a [u8]
-    ensures { λ r. ⌜ now r ≡ shown (located (length (now (store .entry))) (slab .count) (slab .size) (now (order .entry)) i) (now (store .entry)) ⌝ }
+    ensures { λ r. ⌜ now r ≡ shown (placed (length (now (store .entry))) (slab .count) (slab .size) (now (order .entry)) i) (symbol slab (now (order .entry)) i (now (store .entry))) ⌝ }
 {
     let at = locate(store.len(), slab, order, i);
     match at {

@@ -46,10 +46,16 @@ part-result-end-2 : tie.Need-part-result-end-2
 part-result-end-2 c = search needs
 
 returns : tie.Need-returns
-returns c = shown-bytes _ (c .before .before .before .before .locate .result) (c .before .before .before .before .locate .ensures) _ _ (c .before .before .at .given .1)
+returns c =
+    let a = c .before .before .before .before .before .before .before .args in
+    shown-bytes (now (a .store)) (length (now (a .store))) (a .slab .count) (a .slab .size) (now (a .order)) (a .i)
+    (c .before .before .before .before .locate .result) (c .before .before .before .before .locate .ensures) _ _ (c .before .before .at .given .1)
 
 returns-2 : tie.Need-returns-2
-returns-2 c = shown-none _ (c .before .before .before .locate .result) (c .before .before .before .locate .ensures) _ (c .before .enum-told .given .1)
+returns-2 c =
+    let a = c .before .before .before .before .before .before .args in
+    shown-none (now (a .store)) (length (now (a .store))) (a .slab .count) (a .slab .size) (now (a .order)) (a .i)
+    (c .before .before .before .locate .result) (c .before .before .before .locate .ensures) _ _ (c .before .enum-told .given .1)
 
 pub get-spec : {M : Type 1} → statement M
 get-spec =
