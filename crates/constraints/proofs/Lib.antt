@@ -9,3 +9,6 @@ pub mod Joins
 pub mod Closed
 pub mod Marks
 pub mod Accepted
+pub mod Rows
+pub mod Settled
+mod Examples
