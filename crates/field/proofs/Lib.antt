@@ -4,4 +4,6 @@ pub mod Xor
 pub mod Laws
 pub mod Sums
 pub mod Writing
+pub mod Parts
 pub mod Answers
+pub mod Refusals

@@ -2,7 +2,8 @@
 -- Assumes nothing.
 use mathlib.Core.Path.{_≡_, refl, sym, ap, _∙_, subst}
 use mathlib.Core.List.{List}
-use Prim.Native.Nat.{ℕ, _+_, _-_, _≤_, _<_}
+use Prim.Native.Nat.{ℕ, _+_, _-_, _<_}
+use native.Mathlib.Nat.{zero-add}
 use native.Mathlib.Decide.{decLt}
 use native.Mathlib.Omega.{arith}
 use lib.ListN.{length, getD, set, length-set}
@@ -12,6 +13,10 @@ use Rattle.field.specs.Runs.{Written}
 -- nothing yet
 pub written-none : (f : ℕ → ℕ) (xs : List ℕ) (at : ℕ) → Written f xs xs at 0
 written-none f xs at = record { size = refl; part = λ k h. absurd (omega arith); low = λ k h. refl; high = λ k h. refl }
+
+-- nothing was to change
+pub written-same : (f : ℕ → ℕ) (xs : List ℕ) (n : ℕ) → ((k : ℕ) → k < n → getD xs k 0 ≡ f k) → Written f xs xs 0 n
+written-same f xs n e = record { size = refl; part = λ k h. ap (λ (i : ℕ). getD xs i 0) (zero-add k) ∙ e k h; low = λ k h. refl; high = λ k h. refl }
 
 module _ {f : ℕ → ℕ} {xs ys : List ℕ} {at n : ℕ} (w : Written f xs ys at n) where
   -- the next place still holds what it did
@@ -37,6 +42,9 @@ module _ {f : ℕ → ℕ} {xs ys : List ℕ} {at n : ℕ} (w : Written f xs ys 
 
   pub written-is : {m : ℕ} → n ≡ m → Written f xs ys at m
   written-is e = subst (Written f xs ys at) e w
+
+  pub written-from : {from : ℕ} → at ≡ from → Written f xs ys from n
+  written-from e = subst (λ (i : ℕ). Written f xs ys i n) e w
 
   -- the same with another rule that agrees with f
   pub written-as : {g : ℕ → ℕ} → ((k : ℕ) → k < n → f k ≡ g k) → Written g xs ys at n

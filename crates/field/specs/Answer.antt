@@ -1,11 +1,15 @@
 -- What a call that may refuse answers: a value, or the number of the refusal in document 01's table. Every layer's answers are read so.
 -- Assumes nothing.
+use mathlib.Core.Path.{_≡_}
 use mathlib.Core.Bool.{Bool, true, false}
+use mathlib.Core.List.{List}
 use Prim.Native.Nat.{ℕ}
 use lib.Dec.{eqb, ltb}
 use Rattle.field.specs.Octet.{power, over}
 use Rattle.field.specs.declared.refusal.Refusal.{Refusal}
 use Rattle.field.specs.declared.refusal.Refusal.the-variants as Why
+use Rattle.field.specs.declared.refusal.Answer as Plain
+use Rattle.field.specs.declared.refusal.Answer.the-variants as Plains
 use Rattle.field.specs.declared.octet.Answer.{Answer}
 use Rattle.field.specs.declared.octet.Answer.the-variants as Answers
 
@@ -17,6 +21,20 @@ pub data Outcome (A : Type 0) : Type 0 where
 abbrev pub unless : {A : Type 0} → Bool → ℕ → Outcome A → Outcome A
 unless true n o = refused n
 unless false n o = o
+
+-- the first refusal of two
+abbrev pub before : {A B : Type 0} → Outcome A → Outcome B → Outcome B
+before (given a) o = o
+before (refused n) o = refused n
+
+-- a refusal changes no lent memory (document 01, 'Refusal numbers'); else P holds of what is there now
+abbrev pub Left : {A : Type 0} → Outcome A → List ℕ → List ℕ → Type 0 → Type 0
+Left (given a) xs ys P = P
+Left (refused n) xs ys P = ys ≡ xs
+
+-- what a call that may refuse and may write does: its answer r stands for o, and memory is as it was or as P says
+abbrev pub Does : {R A : Type 0} → (R → Outcome A) → Outcome A → List ℕ → (List ℕ → Type 0) → R → List ℕ → Type 0
+Does of o xs P r ys = (of r ≡ o) × Left (of r) xs ys (P ys)
 
 -- document 01, 'Refusal numbers'
 abbrev pub numberOf : Refusal → ℕ
@@ -30,6 +48,11 @@ numberOf Why.SamePlace = 7
 numberOf Why.WrongLength = 8
 numberOf Why.BadCount = 9
 numberOf Why.BadSize = 10
+
+-- what each case of an answer with no value stands for
+abbrev pub done : Plain.Answer → Outcome (Unit {0})
+done Plains.Done = given tt
+done (Plains.Refused why) = refused (numberOf why)
 
 -- what each case of the octets' answer stands for
 abbrev pub outcome : Answer → Outcome ℕ

@@ -2,8 +2,9 @@
 -- Assumes nothing.
 use mathlib.Core.Path.{_≡_}
 use mathlib.Core.List.{List}
+use mathlib.Core.Logic.{_⊎_}
 use Prim.Native.Nat.{ℕ, _+_, _≤_, _<_}
-use lib.ListN.{length, getD}
+use lib.ListN.{length, getD, take, drop}
 use Rattle.field.specs.Octet.{plus, times}
 
 -- ys is xs, but that the n places from `at` on hold f 0, f 1, .. : the one word of all layers for memory that was written
@@ -12,6 +13,16 @@ pub record Written (f : ℕ → ℕ) (xs ys : List ℕ) (at n : ℕ) : Type 0 wh
   pub part : (k : ℕ) → k < n → getD ys (at + k) 0 ≡ f k
   pub low : (k : ℕ) → k < at → getD ys k 0 ≡ getD xs k 0
   pub high : (k : ℕ) → at + n ≤ k → getD ys k 0 ≡ getD xs k 0
+
+-- the n places from `from` on
+abbrev pub part : List ℕ → ℕ → ℕ → List ℕ
+part xs from n = take n (drop from xs)
+
+-- two parts of n places lie inside, and do not meet
+pub record Apart (len n to from : ℕ) : Type 0 where
+  pub to-in : to + n ≤ len
+  pub from-in : from + n ≤ len
+  pub apart : (to + n ≤ from) ⊎ (from + n ≤ to)
 
 -- RFC 6330, 5.7.5: the octets of a sum, of a multiple, and of a sum with a multiple
 abbrev pub added : List ℕ → ℕ → List ℕ → ℕ → ℕ

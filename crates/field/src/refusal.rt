@@ -15,6 +15,12 @@ pub enum Refusal {
     BadSize,
 }
 
+// What a call answers that has nothing to tell but that it was done.
+pub enum Answer {
+    Done,
+    Refused(Refusal),
+}
+
 pub fn number(why: Refusal) -> u32
     ensures { λ r. ⌜ r ≡ numberOf why ⌝ }
 {

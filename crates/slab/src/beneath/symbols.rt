@@ -1,0 +1,68 @@
+// Symbols of t bytes at given places of one lent slab. The one symbol's part is lent on for writing; a source in the same
+// slab is copied out by chunks, since one slab is not lent twice.
+ghost use Prim.Native.Nat.{_+_, _≤_, _<_};
+ghost use lib.ListN.{length};
+ghost use Rattle.field.specs.Runs.{Apart, Written, added, fused, part, scaled};
+
+fn chunk_len(left: usize) -> usize
+    ensures { λ r. ⌜ (r ≤ 256) × (r ≤ left) × (0 < left → 0 < r) ⌝ }
+{
+    if left < 256 { left } else { 256 }
+}
+
+// The symbol at `to` becomes its sum with the symbol at `from`.
+pub fn add(slab: &mut [u8], t: usize, to: usize, from: usize)
+    requires { ⌜ Apart (length (now slab)) t to from ⌝ }
+    ensures { λ _. ⌜ Written (added (now (slab .entry)) to (part (now (slab .entry)) from t)) (now (slab .entry)) (now (slab .exit)) to t ⌝ }
+{
+    let end = to + t;
+    let mut at = 0;
+    while at < t {
+        let n = chunk_len(t - at);
+        let first = from + at;
+        let last = first + n;
+        let mut chunk = [0u8; 256];
+        bytes::copy(&slab[first..last], &mut chunk);
+        field::beneath::bytes::add(&mut slab[to..end], at, &chunk[..n]);
+        at += n;
+    }
+}
+
+// The symbol at `to` becomes c times itself.
+pub fn scale(slab: &mut [u8], t: usize, to: usize, c: u8)
+    requires { ⌜ to + t ≤ length (now slab) ⌝ }
+    ensures { λ _. ⌜ Written (scaled c (part (now (slab .entry)) to t)) (now (slab .entry)) (now (slab .exit)) to t ⌝ }
+{
+    let end = to + t;
+    field::beneath::bytes::scale(&mut slab[to..end], c);
+}
+
+// The symbol at `to` becomes its sum with c times the symbol at `from`.
+pub fn fma(slab: &mut [u8], t: usize, to: usize, from: usize, c: u8)
+    requires { ⌜ Apart (length (now slab)) t to from ⌝ }
+    ensures { λ _. ⌜ Written (fused (now (slab .entry)) to c (part (now (slab .entry)) from t)) (now (slab .entry)) (now (slab .exit)) to t ⌝ }
+{
+    let end = to + t;
+    let mut at = 0;
+    while at < t {
+        let n = chunk_len(t - at);
+        let first = from + at;
+        let last = first + n;
+        let mut chunk = [0u8; 256];
+        bytes::copy(&slab[first..last], &mut chunk);
+        field::beneath::bytes::fma(&mut slab[to..end], at, &chunk[..n], c);
+        at += n;
+    }
+}
+
+// The first n bytes become 0.
+pub fn clear(slab: &mut [u8], n: usize)
+    requires { ⌜ n ≤ length (now slab) ⌝ }
+    ensures { λ _. ⌜ Written (λ k. 0) (now (slab .entry)) (now (slab .exit)) 0 n ⌝ }
+{
+    let mut i = 0;
+    while i < n {
+        slab[i] = 0;
+        i += 1;
+    }
+}
