@@ -5,7 +5,9 @@ pub mod Lists
 pub mod Distinct
 pub mod Grid
 pub mod Product
-pub mod Joins
 pub mod Closed
 pub mod Marks
 pub mod Accepted
+pub mod Rows
+pub mod Settled
+mod Examples

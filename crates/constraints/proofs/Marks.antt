@@ -13,7 +13,7 @@ use lib.Seq.{getD-set-same, getD-set-other}
 use Rattle.field.specs.Octet.{plus}
 use Rattle.field.specs.Runs.{Written}
 use Rattle.field.specs.Sum.{sum, unit}
-use Rattle.field.proofs.Sums.{sum-same, sum-zero, sum-only, sum-last, unit-same, unit-other, unit-lt}
+use Rattle.field.proofs.Sums.{sum-same, sum-zero, sum-only, sum-last, unit-same, unit-other}
 use Rattle.headers.specs.Bytes.{Laid}
 use Rattle.headers.specs.Tuples.{Bounds}
 use Rattle.headers.specs.declared.tuple.Tuple.{Tuple}

@@ -5,3 +5,4 @@ pub mod Ldpc
 pub mod Hdpc
 pub mod Grid
 pub mod Answers
+pub mod Examples

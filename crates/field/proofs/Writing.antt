@@ -43,6 +43,9 @@ module _ {f : ℕ → ℕ} {xs ys : List ℕ} {at n : ℕ} (w : Written f xs ys 
   pub written-is : {m : ℕ} → n ≡ m → Written f xs ys at m
   written-is e = subst (Written f xs ys at) e w
 
+  pub written-from : {from : ℕ} → at ≡ from → Written f xs ys from n
+  written-from e = subst (λ (i : ℕ). Written f xs ys i n) e w
+
   -- the same with another rule that agrees with f
   pub written-as : {g : ℕ → ℕ} → ((k : ℕ) → k < n → f k ≡ g k) → Written g xs ys at n
   written-as e = record { size = w .size; part = λ k h. w .part k h ∙ e k h; low = w .low; high = w .high }

@@ -12,4 +12,3 @@ pub mod Shifts
 pub mod Tuples
 pub mod Answers
 pub mod Settled
-mod Examples

@@ -1,16 +1,14 @@
 -- `constraints::constraint_matrix::enc_indices` meets its contract.
 -- Assumes nothing.
-use mathlib.Core.Path.{_≡_, refl, ap, sym, subst, _∙_}
-use Prim.Native.Nat.{ℕ, _+_, _≤_, _<_}
+use mathlib.Core.Path.{refl, sym, subst}
+use Prim.Native.Nat.{ℕ}
 use native.Mathlib.Omega.{arith}
 use borrow.Author.Tests.{lt-ltb, le-ltb}
 use borrow.Author.Needs.{needs}
-use Rattle.headers.specs.Bytes.{Laid}
-use Rattle.headers.specs.Row.{Obeys, pOf, p1Of}
+use Rattle.headers.specs.Row.{Obeys, p1Of}
 use Rattle.headers.specs.Tuples.{Bounds}
 use Rattle.headers.proofs.Tests.{granted, denied}
 use Rattle.headers.proofs.Accepted.{obeyed, broken}
-use Rattle.constraints.specs.Walk.{Walks, places}
 use Rattle.constraints.proofs.Accepted.{walks, inside-bounds, outside-bounds}
 use Rattle.constraints.proofs.constraint_matrix.enc_indices.Statement.{statement}
 use Rattle.constraints.proofs.constraint_matrix.enc_indices.Tie as tie

@@ -1,7 +1,7 @@
 -- `constraints::beneath::encoding::row` meets its contract: a tuple of the generator is within its bounds.
 -- Assumes nothing.
 use mathlib.Core.Path.{sym, subst}
-use Prim.Native.Nat.{ℕ, _+_}
+use Prim.Native.Nat.{_+_}
 use borrow.Author.Needs.{needs}
 use Rattle.field.specs.Runs.{Written}
 use Rattle.headers.specs.Tuples.{Bounds}

@@ -1,7 +1,7 @@
 -- `constraints::beneath::encoding::set_ones` meets its contract: after i turns the run holds the sum over the first i places.
 -- Assumes nothing.
 use mathlib.Core.Path.{refl}
-use Prim.Native.Nat.{_+_, _-_, _≤_}
+use Prim.Native.Nat.{_-_, _≤_}
 use native.Mathlib.Omega.{arith}
 use borrow.Author.Needs.{needs}
 use lib.ListN.{getD}

@@ -1,6 +1,5 @@
 -- `constraints::beneath::encoding::tuple_row` meets its contract: the walk is laid into a list of 33, and its places are set in a cleared run.
 -- Assumes nothing.
-use native.Mathlib.Omega.{arith}
 use borrow.Author.Needs.{needs}
 use Rattle.constraints.proofs.Marks.{markable, marked}
 use Rattle.constraints.proofs.beneath.encoding.tuple_row.Statement.{statement}

@@ -1,6 +1,6 @@
 -- `constraints::beneath::ldpc::next_step` meets its contract.
 -- Assumes nothing.
-use mathlib.Core.Path.{_≡_, sym, ap, _∙_}
+use mathlib.Core.Path.{_≡_, ap}
 use Prim.Native.Nat.{ℕ, _+_, _/_}
 use native.Mathlib.Nat.{div-eq-of-lt, div-self}
 use native.Mathlib.Omega.{arith}

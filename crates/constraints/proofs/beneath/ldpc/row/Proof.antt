@@ -1,10 +1,11 @@
 -- `constraints::beneath::ldpc::row` meets its contract: its three parts, one after the other.
 -- Assumes nothing.
-use mathlib.Core.Path.{refl, sym}
+use mathlib.Core.Path.{_≡_, sym}
+use Prim.Native.Nat.{_+_, _-_}
 use native.Mathlib.Omega.{arith}
 use borrow.Author.Needs.{needs}
-use Rattle.field.proofs.Writing.{written-is}
-use Rattle.constraints.proofs.Joins.{written-then}
+use Rattle.field.proofs.Writing.{written-is, written-as, written-from}
+use Rattle.field.proofs.Parts.{written-then}
 use Rattle.constraints.proofs.Closed.{ldpc-first, identity-is, end-is}
 use Rattle.constraints.proofs.beneath.ldpc.row.Statement.{statement}
 use Rattle.constraints.proofs.beneath.ldpc.row.Tie as tie
@@ -43,12 +44,13 @@ returns : tie.Need-returns
 returns c =
     let start = c .before .before .before .before .before .before .before .before .before .before .before .before .before in
     let a = start .args in
+    let e : a .at + a .w ≡ a .at + (a .w - a .s + a .s) = omega arith in
     written-is
     (written-then
-    (written-then (c .before .before .before .before .before .before .before .before .before .before .crossings .ensures) refl
-    (c .before .before .before .before .before .before .one-of .ensures) (λ k h. sym (ldpc-first (a .s) (a .w) (a .p) (a .r) k h)) (identity-is (start .pre .0) (a .r) (start .pre .1)))
-    (omega arith)
-    (c .before .before .two-of .ensures) (λ k h. refl) (λ k h. end-is (start .pre .0) (a .r) (start .pre .1) k))
+    (written-then
+    (written-as (c .before .before .before .before .before .before .before .before .before .before .crossings .ensures) (λ k h. sym (ldpc-first (a .s) (a .w) (a .p) (a .r) k h)))
+    (c .before .before .before .before .before .before .one-of .ensures) (identity-is (start .pre .0) (a .r) (start .pre .1)))
+    (written-from (c .before .before .two-of .ensures) e) (λ k h. end-is (start .pre .0) (a .r) (start .pre .1) k))
     (omega arith)
 
 pub row-spec : {M : Type 1} → statement M
