@@ -76,6 +76,19 @@ uint32_t spoonripple_isi(uint32_t k, uint32_t j, uint32_t s, uint32_t h, uint32_
 /* The tuple of an ISI of any 32 bits (5.3.5.4): out[0..6] d, a, b, d1, a1, b1; 4, 5, then 8. */
 uint32_t spoonripple_tuple(uint32_t k, uint32_t j, uint32_t s, uint32_t h, uint32_t w, const uint32_t *tables, size_t len, uint32_t isi, uint64_t *out, size_t out_len);
 
+/* Symbols in lent bytes: count symbols of t bytes at the front of store, an order of length 0 (none) or count, of which only
+ * the entries used are looked at. Refusals: 2 (count above 131,070), 8 (store below count * t bytes, order of another length),
+ * 6 (a symbol of count or more, or an order that puts it there), 7 (dest and src are one physical symbol).
+ * The bytes of the one symbol are written, all others stay. */
+/* All count * t bytes are 0 now. Refusals: 2, then 8. */
+uint32_t spoonripple_slab_with_zeros(uint8_t *store, size_t store_len, size_t count, uint16_t t);
+/* Where symbol i lies in a store of len bytes: out[0..2] start, end. Refusals: 2, 8 (no room in out too), then 6. */
+uint32_t spoonripple_slab_locate(size_t len, size_t count, uint16_t t, const uint32_t *order, size_t order_len, size_t i, uint64_t *out, size_t out_len);
+/* dest + src, scalar * dest, dest + scalar * src, in dest. Refusals: 2, 8, 6, then 7. */
+uint32_t spoonripple_slab_add_assign(uint8_t *store, size_t store_len, size_t count, uint16_t t, const uint32_t *order, size_t order_len, size_t dest, size_t src);
+uint32_t spoonripple_slab_mulassign_scalar(uint8_t *store, size_t store_len, size_t count, uint16_t t, const uint32_t *order, size_t order_len, size_t dest, uint8_t scalar);
+uint32_t spoonripple_slab_fma(uint8_t *store, size_t store_len, size_t count, uint16_t t, const uint32_t *order, size_t order_len, size_t dest, size_t src, uint8_t scalar);
+
 #ifdef __cplusplus
 }
 #endif

@@ -41,8 +41,8 @@ listed f (refused n) = refused n
 abbrev pub one : ℕ → List ℕ
 one x = x ∷ []
 
--- a call with nothing to tell answered r and made ys of its store xs: P holds of ys where it was done
-pub record Did (o : Outcome (Unit {0})) (xs ys : List ℕ) (P : Type 0) (r : ℕ) : Type 0 where
+-- a call of which C is told only that it was done answered r and made ys of its store xs: P holds of ys where it was done
+pub record Did {A : Type 0} (o : Outcome A) (xs ys : List ℕ) (P : Type 0) (r : ℕ) : Type 0 where
   pub answer : r ≡ code o
   pub memory : Left o xs ys P
 

@@ -3,5 +3,6 @@
 pub mod octets;
 pub mod packets;
 pub mod runs;
+pub mod symbols;
 pub mod tuples;
 mod values;
