@@ -76,6 +76,42 @@ uint32_t spoonripple_isi(uint32_t k, uint32_t j, uint32_t s, uint32_t h, uint32_
 /* The tuple of an ISI of any 32 bits (5.3.5.4): out[0..6] d, a, b, d1, a1, b1; 4, 5, then 8. */
 uint32_t spoonripple_tuple(uint32_t k, uint32_t j, uint32_t s, uint32_t h, uint32_t w, const uint32_t *tables, size_t len, uint32_t isi, uint64_t *out, size_t out_len);
 
+/* Symbols in lent bytes: count symbols of t bytes at the front of store, an order of length 0 (none) or count, of which only
+ * the entries used are looked at. Refusals: 2 (count above 131,070), 8 (store below count * t bytes, order of another length),
+ * 6 (a symbol of count or more, or an order that puts it there), 7 (dest and src are one physical symbol).
+ * The bytes of the one symbol are written, all others stay. */
+/* All count * t bytes are 0 now. Refusals: 2, then 8. */
+uint32_t spoonripple_slab_with_zeros(uint8_t *store, size_t store_len, size_t count, uint16_t t);
+/* Where symbol i lies in a store of len bytes: out[0..2] start, end. Refusals: 2, 8 (no room in out too), then 6. */
+uint32_t spoonripple_slab_locate(size_t len, size_t count, uint16_t t, const uint32_t *order, size_t order_len, size_t i, uint64_t *out, size_t out_len);
+/* dest + src, scalar * dest, dest + scalar * src, in dest. Refusals: 2, 8, 6, then 7. */
+uint32_t spoonripple_slab_add_assign(uint8_t *store, size_t store_len, size_t count, uint16_t t, const uint32_t *order, size_t order_len, size_t dest, size_t src);
+uint32_t spoonripple_slab_mulassign_scalar(uint8_t *store, size_t store_len, size_t count, uint16_t t, const uint32_t *order, size_t order_len, size_t dest, uint8_t scalar);
+uint32_t spoonripple_slab_fma(uint8_t *store, size_t store_len, size_t count, uint16_t t, const uint32_t *order, size_t order_len, size_t dest, size_t src, uint8_t scalar);
+
+/* The binary matrix in lent words: height rows of ceil(width / 64) words at the front of words, column c is bit c mod 64 of
+ * word c / 64. Refusals: 2 (height above 131,070, width above 65,535), 8 (words, list or out too short), 6 (a row or column
+ * outside, a range with start above end or end past the size), 7 (dest and src are one row). Words past the matrix stay. */
+/* Every word of the matrix is 0 now, the bits past the width too. Refusals: 2, then 8. */
+uint32_t spoonripple_matrix_new(uint64_t *words, size_t words_len, size_t height, size_t width);
+/* Row i, column j: 0 clears, any other value sets; out[0] is 0 or 1. Refusals: 2, 8, then 6. */
+uint32_t spoonripple_matrix_set(uint64_t *words, size_t words_len, size_t height, size_t width, size_t i, size_t j, uint8_t value);
+uint32_t spoonripple_matrix_get(const uint64_t *words, size_t words_len, size_t height, size_t width, size_t i, size_t j, uint64_t *out, size_t out_len);
+/* How many of the columns start..end of row i are ones: out[0]. Refusals: 2, 8, then 6. */
+uint32_t spoonripple_matrix_count_ones(const uint64_t *words, size_t words_len, size_t height, size_t width, size_t i, size_t start, size_t end, uint64_t *out, size_t out_len);
+/* The rows start..end with a one in column j, the columns start..width with a one in row i: rising, at the front of list, of
+ * which the rest stays; out[0] is how many. Refusals: 2, 8 (list shorter than the whole range too), then 6. */
+uint32_t spoonripple_matrix_get_ones_in_column(const uint64_t *words, size_t words_len, size_t height, size_t width, size_t j, size_t start, size_t end, uint32_t *list, size_t list_len, uint64_t *out, size_t out_len);
+uint32_t spoonripple_matrix_query_non_zero_columns(const uint64_t *words, size_t words_len, size_t height, size_t width, size_t i, size_t start, uint32_t *list, size_t list_len, uint64_t *out, size_t out_len);
+/* Rows i and j change places, whole words; columns i and j do, in the rows from start on. Refusals: 2, 8, then 6. */
+uint32_t spoonripple_matrix_swap_rows(uint64_t *words, size_t words_len, size_t height, size_t width, size_t i, size_t j);
+uint32_t spoonripple_matrix_swap_columns(uint64_t *words, size_t words_len, size_t height, size_t width, size_t i, size_t j, size_t start);
+/* Row dest + row src in row dest, whole words. Refusals: 2, 8, 6, then 7. */
+uint32_t spoonripple_matrix_add_assign_rows(uint64_t *words, size_t words_len, size_t height, size_t width, size_t dest, size_t src);
+/* The first new_height rows and new_width columns, packed to the front; the words past the new end stay. Refusals: 2 (of the
+ * new numbers too), 8, then 6 (a size that grows). */
+uint32_t spoonripple_matrix_resize(uint64_t *words, size_t words_len, size_t height, size_t width, size_t new_height, size_t new_width);
+
 #ifdef __cplusplus
 }
 #endif

@@ -6,7 +6,7 @@ use mathlib.Core.List.{List, [], _∷_}
 use Prim.Native.Nat.{ℕ}
 use lib.Dec.{ltb, eqb}
 use lib.ListN.{length, getD}
-use Rattle.field.specs.Answer.{Outcome, Left, given, refused, unless}
+use Rattle.field.specs.Answer.{Outcome, Left, given, refused, unless, before}
 use Rattle.field.specs.Runs.{Written}
 
 -- 0 where the call was done, else the refusal's number
@@ -33,6 +33,10 @@ abbrev pub thenRoomed : List ℕ → Outcome (List ℕ) → Outcome (List ℕ)
 thenRoomed out (given vs) = roomed out (length vs) (given vs)
 thenRoomed out (refused n) = refused n
 
+-- what a call asks before all else: its limits, then room for n values
+abbrev pub fitting : Outcome (Unit {0}) → ℕ → ℕ → Outcome (Unit {0})
+fitting limits room n = before limits (unless (ltb room n) 8 (given tt))
+
 -- an outcome, as the numbers that are handed over
 abbrev pub listed : {A : Type 0} → (A → List ℕ) → Outcome A → Outcome (List ℕ)
 listed f (given x) = given (f x)
@@ -41,10 +45,18 @@ listed f (refused n) = refused n
 abbrev pub one : ℕ → List ℕ
 one x = x ∷ []
 
--- a call with nothing to tell answered r and made ys of its store xs: P holds of ys where it was done
-pub record Did (o : Outcome (Unit {0})) (xs ys : List ℕ) (P : Type 0) (r : ℕ) : Type 0 where
+-- a call of which C is told only that it was done answered r and made ys of its store xs: P holds of ys where it was done
+pub record Did {A : Type 0} (o : Outcome A) (xs ys : List ℕ) (P : Type 0) (r : ℕ) : Type 0 where
   pub answer : r ≡ code o
   pub memory : Left o xs ys P
+
+-- a call that lists answered r, made `list'` of the slice for the list and `out'` of the one for its length
+abbrev pub many : List ℕ → List ℕ
+many l = one (length l)
+
+pub record Listing (o : Outcome (List ℕ)) (list list' out out' : List ℕ) (r : ℕ) : Type 0 where
+  pub places : Called o list list' r
+  pub told : Called (listed many o) out out' r
 
 -- two runs have to be of one length
 abbrev pub alike : List ℕ → List ℕ → Outcome (Unit {0})

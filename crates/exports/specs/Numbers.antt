@@ -7,6 +7,7 @@ use Rattle.headers.specs.declared.transmission.ObjectTransmissionInformation.{O
 use Rattle.headers.specs.declared.row.Row.{Row}
 use Rattle.headers.specs.declared.row.Sizes.{Sizes}
 use Rattle.headers.specs.declared.tuple.Tuple.{Tuple}
+use Rattle.slab.specs.declared.symbol_slab.SymbolSlab.{SymbolSlab}
 
 abbrev pub id : ℕ → ℕ → PayloadId
 id sbn esi = record { «source_block_number» = sbn; «encoding_symbol_id» = esi }
@@ -33,3 +34,9 @@ sizeNumbers z = z .l ∷ z .p ∷ z .b ∷ z .p1 ∷ []
 
 abbrev pub tupleNumbers : Tuple → List ℕ
 tupleNumbers t = t .d ∷ t .a ∷ t .b ∷ t .d1 ∷ t .a1 ∷ t .b1 ∷ []
+
+abbrev pub slab : ℕ → ℕ → SymbolSlab
+slab count t = record { count = count; size = t }
+
+abbrev pub bounds : ℕ × ℕ → List ℕ
+bounds r = r .0 ∷ r .1 ∷ []

@@ -21,7 +21,7 @@ pub extern "C" fn spoonripple_run_add(dst: &mut [u8], src: &[u8]) -> u32
 // c · dst
 #[no_mangle]
 pub extern "C" fn spoonripple_run_scale(dst: &mut [u8], c: u8) -> u32
-    ensures { λ r. ⌜ Did (given tt) (now (dst .entry)) (now (dst .exit))
+    ensures { λ r. ⌜ Did (given (tt {0})) (now (dst .entry)) (now (dst .exit))
         (Written (scaled c (now (dst .entry))) (now (dst .entry)) (now (dst .exit)) 0 (length (now (dst .entry)))) r ⌝ }
 {
     bytes::scale(dst, c);

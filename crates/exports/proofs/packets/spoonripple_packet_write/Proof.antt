@@ -17,7 +17,7 @@ same-length c = search needs
 returns : tie.Need-returns
 returns c =
     let w = c .before .before .before .serialize in
-    did-as (w .result) (w .ensures .answer) (w .ensures .memory) (c .told .ensures)
+    did-as (w .ensures .answer) (w .ensures .memory) (c .told .ensures)
 
 pub spoonripple-packet-write-spec : {M : Type 1} → statement M
 spoonripple-packet-write-spec =
