@@ -1,0 +1,5 @@
+-- The laws of the solver. A crate above names these as `Rattle.solver.proofs.Once`.
+pub mod Rows
+pub mod Steps
+pub mod Finish
+pub mod Once

@@ -1,0 +1,3 @@
+-- What the contracts of `solver` cite. A crate above names these as `Rattle.solver.specs.Verdict`.
+pub mod Verdict
+pub mod Steps

@@ -1,0 +1,3 @@
+// Solving: the intermediate symbols that the constraints and the packets that arrived settle.
+pub mod beneath;
+pub mod verdict;
