@@ -1,2 +1,4 @@
--- What the contracts of `solver` cite.
+-- What the contracts of `solver` cite. A crate above names these as `Rattle.solver.specs.Verdict`.
+pub mod Verdict
+pub mod Steps
 pub mod Display

@@ -1,0 +1,60 @@
+-- `solver::beneath::steps::hold` meets its contract: row i is made 1 there, gets its place, and goes off the others.
+-- Assumes nothing.
+use Prim.Native.Nat.{_+_}
+use Rattle.linear.proofs.Elimination.{scale-row, scale-one, scale-keeps}
+use Rattle.linear.proofs.Keeping.{keeps-trans}
+use Rattle.solver.proofs.Rows.{row-in}
+use Rattle.solver.proofs.Steps.{room-kept}
+use borrow.Author.Needs.{needs}
+use mathlib.Core.Path.{refl, _∙_}
+use native.Mathlib.Omega.{arith}
+use Rattle.solver.proofs.beneath.steps.hold.Statement.{statement}
+use Rattle.solver.proofs.beneath.steps.hold.Tie as tie
+
+make-one-requires : tie.Need-make-one-requires
+make-one-requires c κs =
+    let s = c .before .before .before .before .before in
+    (row-in (s .args .i + 1) (s .args .l) (s .args .i) (omega arith) (s .pre .0 .0 .rows), row-in (s .args .i + 1) (s .args .t) (s .args .i) (omega arith) (s .pre .0 .0 .symbols), s .pre .0 .2)
+
+settle-requires : tie.Need-settle-requires
+settle-requires c κs =
+    let s = c .before .before .before .before .before .before .before .before .before .before .before .before .before in
+    let e = c .before .before .before .before .before .before .before .make-one .ensures in (
+      (room-kept (s .pre .0 .0) (e .0 .size) (e .1 .size), s .pre .0 .1, s .pre .0 .2, s .pre .0 .3),
+      (scale-row (s .pre .1 .0) (s .pre .0 .2) (s .pre .1 .1) refl (e .0) (e .1), scale-one (s .pre .1 .0) (s .pre .0 .2) (s .pre .1 .1) refl (e .0) (e .1)),
+    )
+
+join-requires : tie.Need-join-requires
+join-requires c κs =
+    let s = c .before .before .before .before .before .before .before .before .before .before .before .before .before .before .before .before .before .before .before .before .before .before .before in
+    let e = c .before .before .before .before .before .before .before .before .before .before .before .before .before .before .before .before .before .make-one .ensures in
+    let u = c .before .before .before .before .before .before .before .before .before .settle .ensures in
+    ((room-kept (s .pre .0 .0) (u .1 .rows .size ∙ e .0 .size) (u .1 .symbols .size ∙ e .1 .size), omega (arith, s .pre .0 .1, c .before .before .before .before .before .before .before .before .before .settle .kept)), u .0)
+
+same-length : tie.Need-same-length
+same-length c = search needs
+
+same-length-2 : tie.Need-same-length-2
+same-length-2 c = search needs
+
+same-length-3 : tie.Need-same-length-3
+same-length-3 c = search needs
+
+returns : tie.Need-returns
+returns c =
+    let s = c .before .before .before .before .before .before .before .before .before .before .before .before .before .before .before .before .before .before .before .before .before .before .before .before .before .before .before .before in
+    let e = c .before .before .before .before .before .before .before .before .before .before .before .before .before .before .before .before .before .before .before .before .before .before .make-one .ensures in
+    let j = c .before .before .before .before .join .ensures in
+    (j .0, keeps-trans (scale-keeps (s .pre .1 .0) (s .pre .0 .2) (s .pre .1 .1) refl (e .0) (e .1)) (keeps-trans (c .before .before .before .before .before .before .before .before .before .before .before .before .before .before .settle .ensures .1) (j .1)))
+
+pub hold-spec : {M : Type 1} → statement M
+hold-spec =
+    tie.close
+    (tie.spec
+    make-one-requires
+    settle-requires
+    join-requires
+    same-length
+    same-length-2
+    same-length-3
+    returns)
