@@ -3,11 +3,11 @@ ghost use mathlib.Core.Path.{_≡_};
 ghost use Prim.Native.Nat.{_+_, _-_, _/_, _%_};
 ghost use lib.ListN.{length, getD};
 ghost use Rattle.field.specs.Answer.{before, done, given};
-ghost use Rattle.field.specs.Runs.{Written, added};
+ghost use Rattle.field.specs.Runs.{Written, added, part};
 ghost use Rattle.stores.specs.Bits.{crossedFrom, withBit};
-ghost use Rattle.stores.specs.Rows.{Exchanged, packedTo, row};
+ghost use Rattle.stores.specs.Rows.{Exchanged, packedTo};
 ghost use Rattle.stores.specs.Counting.{ones, tally};
-ghost use Rattle.stores.specs.Matrix.{entry, fresh, limited, listable, oneOf, paired, rowAt, rowWords, shape, shrunk, spanned, summed, wordsOf};
+ghost use Rattle.stores.specs.Matrix.{entry, limited, listable, oneOf, paired, rowAt, rowWords, shape, shrinkable, spanned, stored, summed, wordsOf};
 ghost use Rattle.exports.specs.Call.{Called, Did, Listing, fitting, listed, one};
 use crate::values::hand;
 use crate::values::told;
@@ -38,7 +38,7 @@ fn fits(height: usize, width: usize, room: usize) -> Answer
 
 #[no_mangle]
 pub extern "C" fn spoonripple_matrix_new(words: &mut [u64], height: usize, width: usize) -> u32
-    ensures { λ r. ⌜ Did (fresh (length (now (words .entry))) (shape height width)) (now (words .entry)) (now (words .exit))
+    ensures { λ r. ⌜ Did (before (stored (length (now (words .entry))) (shape height width)) (given (shape height width))) (now (words .entry)) (now (words .exit))
         (Written (λ k. 0) (now (words .entry)) (now (words .exit)) 0 (wordsOf (shape height width))) r ⌝ }
 {
     match matrix::new(words, height, width) {
@@ -222,7 +222,7 @@ pub extern "C" fn spoonripple_matrix_add_assign_rows(
     src: usize,
 ) -> u32
     ensures { λ r. ⌜ Did (summed (length (now (words .entry))) (shape height width) dest src) (now (words .entry)) (now (words .exit))
-        (Written (added (now (words .entry)) (rowAt (shape height width) dest) (row (now (words .entry)) (rowAt (shape height width) src) (rowWords width)))
+        (Written (added (now (words .entry)) (rowAt (shape height width) dest) (part (now (words .entry)) (rowAt (shape height width) src) (rowWords width)))
         (now (words .entry)) (now (words .exit)) (rowAt (shape height width) dest) (rowWords width)) r ⌝ }
 {
     let m = DenseBinaryMatrix { height, width };
@@ -238,7 +238,7 @@ pub extern "C" fn spoonripple_matrix_resize(
     new_height: usize,
     new_width: usize,
 ) -> u32
-    ensures { λ r. ⌜ Did (shrunk (length (now (words .entry))) (shape height width) (shape «new_height» «new_width»)) (now (words .entry)) (now (words .exit))
+    ensures { λ r. ⌜ Did (before (shrinkable (length (now (words .entry))) (shape height width) (shape «new_height» «new_width»)) (given (shape «new_height» «new_width»))) (now (words .entry)) (now (words .exit))
         (Written (packedTo (now (words .entry)) (rowWords «new_width») (rowWords width)) (now (words .entry)) (now (words .exit)) 0 (wordsOf (shape «new_height» «new_width»))) r ⌝ }
 {
     let m = DenseBinaryMatrix { height, width };

@@ -3,9 +3,9 @@ ghost use mathlib.Core.Path.{_≡_};
 ghost use Prim.Native.Nat.{_*_};
 ghost use lib.Dec.{ltb};
 ghost use lib.ListN.{length};
-ghost use Rattle.field.specs.Answer.{unless};
+ghost use Rattle.field.specs.Answer.{given, unless};
 ghost use Rattle.field.specs.Runs.{Written, added, fused, scaled};
-ghost use Rattle.slab.specs.Slab.{located, paired, placed, start, symbol, zeroed};
+ghost use Rattle.slab.specs.Slab.{located, paired, placed, start, symbol};
 ghost use Rattle.exports.specs.Call.{Called, Did, listed, roomed};
 ghost use Rattle.exports.specs.Numbers.{bounds, slab};
 use crate::values::hand;
@@ -18,7 +18,7 @@ use slab::symbol_slab::SymbolSlab;
 
 #[no_mangle]
 pub extern "C" fn spoonripple_slab_with_zeros(store: &mut [u8], count: usize, t: u16) -> u32
-    ensures { λ r. ⌜ Did (zeroed (length (now (store .entry))) count t) (now (store .entry)) (now (store .exit))
+    ensures { λ r. ⌜ Did (unless (ltb 131070 count) 2 (unless (ltb (length (now (store .entry))) (count * t)) 8 (given (slab count t)))) (now (store .entry)) (now (store .exit))
         (Written (λ k. 0) (now (store .entry)) (now (store .exit)) 0 (count * t)) r ⌝ }
 {
     match symbol_slab::with_zeros(store, count, t) {

@@ -14,7 +14,7 @@ use Rattle.field.specs.Runs.{Written, added, fused, scaled}
 use Rattle.field.proofs.Laws.{one-times, inverse-lt}
 use Rattle.field.proofs.Parts.{part-at}
 use Rattle.field.proofs.Writing.{written-as}
-use Rattle.slab.specs.Slab.{Apart, part}
+use Rattle.field.specs.Runs.{Apart, part}
 use Rattle.linear.specs.Bytes.{Bytes, cell}
 use Rattle.linear.specs.Rows.{RowAdded, RowTimes}
 use Rattle.linear.proofs.Rows.{row-times-one, moved-by-adding}

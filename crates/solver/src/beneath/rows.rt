@@ -4,7 +4,7 @@ ghost use mathlib.Core.Logic.{_≢_};
 ghost use Prim.Native.Nat.{ℕ, _+_, _*_, _≤_, _<_};
 ghost use lib.ListN.{length};
 ghost use Rattle.field.specs.Octet as octets;
-ghost use Rattle.slab.specs.Slab.{Apart};
+ghost use Rattle.field.specs.Runs.{Apart};
 ghost use Rattle.linear.specs.Bytes.{cell};
 ghost use Rattle.linear.specs.Rows.{RowAdded, RowTimes, RowCopied};
 ghost use Rattle.solver.specs.Steps.{FirstOther, Moved};
