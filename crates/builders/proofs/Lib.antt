@@ -1,0 +1,3 @@
+-- The laws. A crate above names these as `Rattle.builders.proofs.Adding`.
+pub mod Adding
+pub mod Walking

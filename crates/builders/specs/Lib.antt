@@ -1,0 +1,2 @@
+-- What the contracts of `builders` cite. A crate above names these as `Rattle.builders.specs.Adding`.
+pub mod Adding
