@@ -26,7 +26,7 @@ adds-here : (i j : ℕ) → adds i j i j ≡ 1
 unfolding adds
 adds-here i j = rw (eq-eqb i i refl) (unit-same j j refl)
 
-adds-else : (r c i j : ℕ) → ((r ≡ i) × (c ≡ j) → ⊥) → adds r c i j ≡ 0
+pub adds-else : (r c i j : ℕ) → ((r ≡ i) × (c ≡ j) → ⊥) → adds r c i j ≡ 0
 unfolding adds
 adds-else r c i j n = go (ℕ-discrete r i)
   where
