@@ -2,20 +2,20 @@
 -- Assumes nothing.
 use mathlib.Core.Path.{_≡_, refl, sym, ap, ap₂, _∙_, subst}
 use mathlib.Core.List.{List}
-use Prim.Native.Nat.{ℕ, zero, suc, _+_, _-_, _*_, _/_, _%_, _≤_, _<_}
+use Prim.Native.Nat.{ℕ, _+_, _-_, _/_, _≤_, _<_}
 use native.Mathlib.Decide.{ℕ-discrete}
 use native.Mathlib.Numerals.{add-one}
 use native.Mathlib.Omega.{arith}
 use borrow.Author.Tests.{eq-eqb, ne-eqb}
-use lib.Bits.{bitXor, xor-zero-r}
-use lib.ListN.{length, getD}
+use lib.Bits.{xor-zero-r}
+use lib.ListN.{length}
 use Rattle.field.specs.Octet.{plus}
-use Rattle.field.specs.Sum.{sum, unit}
+use Rattle.field.specs.Sum.{sum}
 use Rattle.field.proofs.Laws.{bit}
 use Rattle.field.proofs.Parts.{block-ends}
 use Rattle.field.proofs.Sums.{sum-zero, sum-last, unit-same, unit-other}
 use Rattle.field.proofs.Xor.{assoc}
-use Rattle.stores.specs.Matrix.{entry, rowAt, rowWords, wordsOf}
+use Rattle.stores.specs.Matrix.{entry, rowAt, rowWords}
 use Rattle.stores.specs.declared.matrix.DenseBinaryMatrix.{DenseBinaryMatrix}
 use Rattle.stores.proofs.Columns.{Put}
 use Rattle.stores.proofs.Entries.{entry-lt, set-entry, set-other}

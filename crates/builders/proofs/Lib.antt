@@ -3,3 +3,4 @@ pub mod Adding
 pub mod Walking
 pub mod Systems
 pub mod Limits
+pub mod Settled

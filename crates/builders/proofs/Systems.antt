@@ -1,8 +1,8 @@
 -- The sums that the builder adds are the rows of the system, one by one; and a matrix that is built is settled.
 -- Assumes nothing.
-use mathlib.Core.Path.{_≡_, refl, sym, ap, ap₂, _∙_, subst}
+use mathlib.Core.Path.{_≡_, ap, ap₂, _∙_}
 use mathlib.Core.List.{List}
-use Prim.Native.Nat.{ℕ, _+_, _-_, _*_, _/_, _%_, _^_, _≤_, _<_}
+use Prim.Native.Nat.{ℕ, _+_, _-_, _/_, _%_, _^_, _≤_, _<_}
 use native.Mathlib.Nat.{mod-lt}
 use native.Mathlib.Decide.{decLt}
 use native.Mathlib.Omega.{arith}
@@ -13,13 +13,13 @@ use Rattle.field.specs.Octet.{plus}
 use Rattle.field.specs.Runs.{Written}
 use Rattle.field.specs.Sum.{sum}
 use Rattle.field.proofs.Sums.{sum-zero, sum-only}
-use Rattle.headers.specs.Row.{lOf, pOf, p1Of}
+use Rattle.headers.specs.Row.{pOf}
 use Rattle.headers.specs.declared.row.Row.{Row}
-use Rattle.stores.specs.Matrix.{entry, wordsOf}
+use Rattle.stores.specs.Matrix.{wordsOf}
 use Rattle.stores.proofs.Entries.{new-entry}
-use Rattle.constraints.specs.Encoding.{enc, encOf}
-use Rattle.constraints.specs.Ldpc.{adds, one, two, three, ldpc, ldpcOf, Crosses}
-use Rattle.builders.specs.Adding.{Added, only, turn}
+use Rattle.constraints.specs.Encoding.{encOf}
+use Rattle.constraints.specs.Ldpc.{adds, one, two, three, ldpc, ldpcOf}
+use Rattle.builders.specs.Adding.{Added, only}
 use Rattle.builders.specs.Built.{system, shaped, Built}
 use Rattle.builders.proofs.Adding.{adds-else}
 

@@ -7,7 +7,7 @@ use Prim.Native.Nat.{ℕ, _+_, _<_}
 use native.Mathlib.Nat.{zero-add}
 use native.Mathlib.Omega.{arith}
 use lib.Dec.{eqb}
-use lib.ListN.{length, getD}
+use lib.ListN.{getD}
 use Rattle.field.specs.Choice.{pick}
 use Rattle.field.specs.Sum.{sum, unit}
 use Rattle.field.proofs.Sums.{sum-same, sum-zero}

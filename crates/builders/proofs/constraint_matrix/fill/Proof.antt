@@ -1,7 +1,7 @@
 -- `builders::constraint_matrix::fill` meets its contract: cleared words, the LDPC rows, then the rows of the ISIs.
 -- Assumes nothing.
-use mathlib.Core.Path.{_≡_, _∙_}
-use Prim.Native.Nat.{_+_, _-_, _*_, _/_, _≤_, _<_}
+use mathlib.Core.Path.{_∙_}
+use Prim.Native.Nat.{_-_}
 use native.Mathlib.Omega.{arith}
 use borrow.Author.Needs.{needs}
 use Rattle.headers.specs.Row.{Obeys}

@@ -1,7 +1,6 @@
 -- `builders::beneath::adding::enc_row` meets its contract: the walk of the ISI's tuple is added place by place.
 -- Assumes nothing.
-use mathlib.Core.Path.{_≡_, sym, ap, _∙_, subst}
-use Prim.Native.Nat.{ℕ, _+_, _<_}
+use mathlib.Core.Path.{sym, ap, _∙_, subst}
 use native.Mathlib.Omega.{arith}
 use borrow.Author.Needs.{needs}
 use Rattle.headers.specs.Tuples.{Bounds}
