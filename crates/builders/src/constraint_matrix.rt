@@ -18,13 +18,14 @@ fn fill(r: Row, tables: &[u32], isis: &[u32], ws: &mut [u64], zeros: u32)
     requires { ⌜ Obeys r × (length (now tables) ≡ 1024) × (zeros ≤ r .h) × (length (now isis) ≤ 65535) × Lies (shaped r zeros (length (now isis))) (now ws) ⌝ }
     ensures { λ _. ⌜ Built (now (tables .entry)) (now (isis .entry)) r zeros (now (ws .entry)) (now (ws .exit)) ⌝ }
 {
-    let from = (r.s + zeros) as usize;
+    let s = r.s as usize;
+    let from = s + zeros as usize;
     let height = from + isis.len();
     let width = row::l(r) as usize;
     let m = DenseBinaryMatrix { height, width };
     let p = row::p(r);
     words::clear(ws, height * ((width + 63) / 64));
-    adding::ldpc_rows(ws, m, r.s as usize, r.w as usize, p as usize);
+    adding::ldpc_rows(ws, m, s, r.w as usize, p as usize);
     adding::enc_rows(ws, m, from, tables, isis, r.j, r.w, p, row::p1(r));
 }
 

@@ -1,7 +1,6 @@
 -- `builders::constraint_matrix::fill` meets its contract: cleared words, the LDPC rows, then the rows of the ISIs.
 -- Assumes nothing.
 use mathlib.Core.Path.{_∙_}
-use Prim.Native.Nat.{_-_}
 use native.Mathlib.Omega.{arith}
 use borrow.Author.Needs.{needs}
 use Rattle.headers.specs.Row.{Obeys}
@@ -12,11 +11,11 @@ use Rattle.builders.proofs.Systems.{built}
 use Rattle.builders.proofs.constraint_matrix.fill.Statement.{statement}
 use Rattle.builders.proofs.constraint_matrix.fill.Tie as tie
 
+cast-s : tie.Need-cast-s
+cast-s c = search needs
+
 add-from : tie.Need-add-from
 add-from c = let o = c .before .before .before .before .pre .0 in omega (arith, o .l-high)
-
-cast-from : tie.Need-cast-from
-cast-from c = search needs
 
 add-height : tie.Need-add-height
 add-height c = let o = c .before .before .before .before .pre .0 in omega (arith, o .l-high)
@@ -45,45 +44,42 @@ cast-ldpc-rows c = search needs
 cast-ldpc-rows-2 : tie.Need-cast-ldpc-rows-2
 cast-ldpc-rows-2 c = search needs
 
-cast-ldpc-rows-3 : tie.Need-cast-ldpc-rows-3
-cast-ldpc-rows-3 c = search needs
-
 ldpc-rows-requires : tie.Need-ldpc-rows-requires
 ldpc-rows-requires c κs =
-    let s = c .before .before .before .before .before .before .before .before .before .before .before .before .before in
+    let s = c .before .before .before .before .before .before .before .before .before .before .before .before in
     let o : Obeys (s .args .r) = s .pre .0 in
-    rw (c .before .before .before .before .before .before .before .before .l .ensures, c .before .before .before .before .before .before .before .p .ensures)
-    (lies-on (s .pre .4) (c .before .before .before .before .before .clear .ensures .size), crosses o, omega arith, omega (arith, l-is o))
+    rw (c .before .before .before .before .before .before .before .l .ensures, c .before .before .before .before .before .before .p .ensures)
+    (lies-on (s .pre .4) (c .before .before .before .before .clear .ensures .size), crosses o, omega arith, omega (arith, l-is o))
 
 p1-requires : tie.Need-p1-requires
 p1-requires c κs = search needs
 
 enc-rows-requires : tie.Need-enc-rows-requires
 enc-rows-requires c κs =
-    let s = c .before .before .before .before .before .before .before .before .before .before .before .before .before .before .before .before .before .before in
+    let s = c .before .before .before .before .before .before .before .before .before .before .before .before .before .before .before .before .before in
     let o : Obeys (s .args .r) = s .pre .0 in
-    rw (c .before .before .before .before .before .before .before .before .before .before .before .before .before .l .ensures, c .before .before .before .before .before .before .before .before .before .before .before .before .p .ensures, c .p1 .ensures)
-    (lies-on (s .pre .4) (c .before .before .before .before .ldpc-rows .ensures .size ∙ c .before .before .before .before .before .before .before .before .before .before .clear .ensures .size), omega arith, walks o, ready o (s .pre .1), omega (arith, l-is o))
+    rw (c .before .before .before .before .before .before .before .before .before .before .before .before .l .ensures, c .before .before .before .before .before .before .before .before .before .before .before .p .ensures, c .p1 .ensures)
+    (lies-on (s .pre .4) (c .before .before .before .before .ldpc-rows .ensures .size ∙ c .before .before .before .before .before .before .before .before .before .clear .ensures .size), omega arith, walks o, ready o (s .pre .1), omega (arith, l-is o))
 
 same-length : tie.Need-same-length
 same-length c = search needs
 
 returns : tie.Need-returns
 returns c =
-    let s = c .before .before .before .before .before .before .before .before .before .before .before .before .before .before .before .before .before .before .before .before .before in
+    let s = c .before .before .before .before .before .before .before .before .before .before .before .before .before .before .before .before .before .before .before .before in
     let a = s .args in
     built (a .tables .now) (a .isis .now) (a .r) (a .zeros) (omega (arith, s .pre .0 .ranges .s-low))
-    (rw (c .before .before .before .before .before .before .before .before .before .before .before .before .before .before .before .before .l .ensures) at (c .before .before .before .before .before .before .before .before .before .before .before .before .before .clear .ensures))
-    (rw (c .before .before .before .before .before .before .before .before .before .before .before .before .before .before .before .before .l .ensures, c .before .before .before .before .before .before .before .before .before .before .before .before .before .before .before .p .ensures) at (c .before .before .before .before .before .before .before .ldpc-rows .ensures))
-    (rw (c .before .before .before .before .before .before .before .before .before .before .before .before .before .before .before .before .l .ensures, c .before .before .before .before .before .before .before .before .before .before .before .before .before .before .before .p .ensures, c .before .before .before .p1 .ensures) at (c .before .before .enc-rows .ensures))
+    (rw (c .before .before .before .before .before .before .before .before .before .before .before .before .before .before .before .l .ensures) at (c .before .before .before .before .before .before .before .before .before .before .before .before .clear .ensures))
+    (rw (c .before .before .before .before .before .before .before .before .before .before .before .before .before .before .before .l .ensures, c .before .before .before .before .before .before .before .before .before .before .before .before .before .before .p .ensures) at (c .before .before .before .before .before .before .before .ldpc-rows .ensures))
+    (rw (c .before .before .before .before .before .before .before .before .before .before .before .before .before .before .before .l .ensures, c .before .before .before .before .before .before .before .before .before .before .before .before .before .before .p .ensures, c .before .before .before .p1 .ensures) at (c .before .before .enc-rows .ensures))
     (λ k. let h = c .slice-known4 .given k in omega arith)
 
 pub fill-spec : {M : Type 1} → statement M
 fill-spec =
     tie.close
     (tie.spec
+    cast-s
     add-from
-    cast-from
     add-height
     l-requires
     cast-width
@@ -93,7 +89,6 @@ fill-spec =
     clear-requires
     cast-ldpc-rows
     cast-ldpc-rows-2
-    cast-ldpc-rows-3
     ldpc-rows-requires
     p1-requires
     enc-rows-requires
