@@ -1,0 +1,36 @@
+-- `builders::constraint_matrix::generate_constraint_matrix_no_hdpc` meets its contract.
+-- Assumes nothing.
+use mathlib.Core.Path.{refl}
+use native.Mathlib.Omega.{arith}
+use borrow.Author.Needs.{needs}
+use Rattle.headers.specs.Row.{Obeys}
+use Rattle.headers.proofs.Tests.{granted, denied}
+use Rattle.headers.proofs.Accepted.{broken}
+use Rattle.builders.proofs.constraint_matrix.generate_constraint_matrix_no_hdpc.Statement.{statement}
+use Rattle.builders.proofs.constraint_matrix.generate_constraint_matrix_no_hdpc.Tie as tie
+
+obeys-requires : tie.Need-obeys-requires
+obeys-requires c κs = search needs
+
+returns : tie.Need-returns
+returns c = record { answer = simp (broken (denied (c .before .obeys .result) (c .if1 .taken) (c .before .obeys .ensures))); memory = refl }
+
+-- past the test the rules hold
+fine : (c : tie.Else1) → Obeys (c .before .before .before .before .before .args .r)
+fine c = granted (c .before .obeys .result) (c .if1 .left) (c .before .obeys .ensures)
+
+add-build : tie.Need-add-build
+add-build c = let o = fine (c .before .before) in omega (arith, o .l-high)
+
+build-requires : tie.Need-build-requires
+build-requires c κs = (fine (c .before .before), omega arith)
+
+same-length : tie.Need-same-length
+same-length c = search needs
+
+returns-2 : tie.Need-returns-2
+returns-2 c = c .before .before .build .ensures
+
+pub generate-constraint-matrix-no-hdpc-spec : {M : Type 1} → statement M
+generate-constraint-matrix-no-hdpc-spec =
+    tie.close (tie.spec obeys-requires returns add-build build-requires same-length returns-2)

@@ -1,0 +1,31 @@
+-- Ones added to a binary matrix, entry by entry, as the sums of RFC 6330 section 5.3.3.3 add them.
+-- Assumes nothing.
+use mathlib.Core.Path.{_≡_}
+use mathlib.Core.List.{List}
+use Prim.Native.Nat.{ℕ, _/_, _<_, _≤_}
+use lib.Dec.{eqb}
+use lib.ListN.{length, getD}
+use Rattle.field.specs.Choice.{pick}
+use Rattle.field.specs.Octet.{plus}
+use Rattle.stores.specs.Matrix.{entry, rowWords, wordsOf}
+use Rattle.stores.specs.declared.matrix.DenseBinaryMatrix.{DenseBinaryMatrix}
+use Rattle.constraints.specs.Ldpc.{adds, one, two, three}
+
+-- ys is xs with f added to each entry, the bits past the width too; the words past the matrix stay
+pub record Added (f : ℕ → ℕ → ℕ) (xs ys : List ℕ) (m : DenseBinaryMatrix) : Type 0 where
+  pub size : length ys ≡ length xs
+  pub bits : (r c : ℕ) → r < m .height → c / 64 < rowWords (m .width) → entry m ys r c ≡ plus (entry m xs r c) (f r c)
+  pub high : (k : ℕ) → wordsOf m ≤ k → getD ys k 0 ≡ getD xs k 0
+
+-- the matrix is within its limits and lies inside a store
+pub record Lies (m : DenseBinaryMatrix) (xs : List ℕ) : Type 0 where
+  pub narrow : m .width < 65536
+  pub room : wordsOf m ≤ length xs
+
+-- what turn k of the first loop adds at (r, c): C[k] to three rows
+abbrev pub turn : ℕ → ℕ → ℕ → ℕ → ℕ
+turn s r c k = plus (plus (adds r c (one s k) k) (adds r c (two s k) k)) (adds r c (three s k) k)
+
+-- f in row i, and 0 in the others
+abbrev pub only : ℕ → (ℕ → ℕ) → ℕ → ℕ → ℕ
+only i f r c = pick (eqb r i) (f c) 0
