@@ -43,10 +43,10 @@ fn finish(p: Progress, values: &[u8], pivots: &[u16], out: &mut [u8], l: usize, 
         return Verdict::Contradiction;
     };
     deliver(values, pivots, out, l, t, r);
-    if r < l {
-        return Verdict::Open((l - r) as u32);
+    if l <= r {
+        return Verdict::Solved;
     }
-    Verdict::Solved
+    Verdict::Open((l - r) as u32)
 }
 
 // Solves the m equations in l symbols of t octets that the two stores hold. Their used parts are 0 afterwards.

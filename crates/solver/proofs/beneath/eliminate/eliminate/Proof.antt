@@ -1,15 +1,15 @@
 -- `solver::beneath::eliminate::eliminate` meets its contract: after i turns the first i equations are taken.
 -- Assumes nothing.
+use mathlib.Core.Path.{_≡_, refl}
 use Prim.Native.Nat.{_+_, _-_, _≤_}
+use native.Mathlib.Omega.{arith}
+use lib.ListN.{length}
+use borrow.Author.Needs.{needs}
+use Rattle.linear.specs.Elimination.{Held, Keeps}
 use Rattle.linear.proofs.Elimination.{held-none}
 use Rattle.linear.proofs.Keeping.{keeps-refl, keeps-trans, keeps-more}
-use Rattle.linear.specs.Elimination.{Held, Keeps}
-use Rattle.solver.proofs.Steps.{room-kept, room-less, clashes-more}
 use Rattle.solver.specs.Steps.{column}
-use borrow.Author.Needs.{needs}
-use lib.ListN.{length}
-use mathlib.Core.Path.{_≡_, refl}
-use native.Mathlib.Omega.{arith}
+use Rattle.solver.proofs.Steps.{room-kept, room-less, clashes-more}
 use Rattle.solver.proofs.beneath.eliminate.eliminate.Statement.{statement}
 use Rattle.solver.proofs.beneath.eliminate.eliminate.Tie as tie
 

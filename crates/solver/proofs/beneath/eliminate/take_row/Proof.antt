@@ -1,12 +1,13 @@
 -- `solver::beneath::eliminate::take_row` meets its contract: row i is held, or is 0 like its symbol, or clashes.
 -- Assumes nothing.
+use mathlib.Core.Path.{refl, _∙_}
 use Prim.Native.Nat.{_-_, _*_, _<_}
+use native.Mathlib.Omega.{arith}
+use borrow.Author.Needs.{needs}
 use Rattle.linear.proofs.Elimination.{drop-row}
 use Rattle.linear.proofs.Finish.{rank-at-most, room}
 use Rattle.linear.proofs.Keeping.{keeps-trans}
 use Rattle.solver.proofs.Steps.{room-kept, other-column, no-column}
-use borrow.Author.Needs.{needs}
-use native.Mathlib.Omega.{arith}
 use Rattle.solver.proofs.beneath.eliminate.take_row.Statement.{statement}
 use Rattle.solver.proofs.beneath.eliminate.take_row.Tie as tie
 
@@ -25,7 +26,7 @@ first-other-requires : tie.Need-first-other-requires
 first-other-requires c κs = search needs
 
 sub-hold : tie.Need-sub-hold
-sub-hold c = search needs
+sub-hold c = c .before .before .before .before .first-other .ensures .least
 
 hold-requires : tie.Need-hold-requires
 hold-requires c κs =
@@ -41,13 +42,13 @@ add-t31 : tie.Need-add-t31
 add-t31 c = omega (arith, rank-at-most (c .before .before .before .before .before .before .hold .ensures .0), c .before .before .before .before .before .before .before .before .before .before .before .before .before .before .before .before .before .before .before .before .before .before .before .before .pre .0 .1 .small)
 
 same-length : tie.Need-same-length
-same-length c = search needs
+same-length c = c .before .before .before .before .before .before .hold .ensures .1 .rows .size ∙ c .before .before .before .before .before .before .before .before .before .before .before .before .before .before .before .before .before .sift .ensures .1 .rows .size
 
 same-length-2 : tie.Need-same-length-2
-same-length-2 c = search needs
+same-length-2 c = c .before .before .before .before .before .before .hold .ensures .1 .symbols .size ∙ c .before .before .before .before .before .before .before .before .before .before .before .before .before .before .before .before .before .sift .ensures .1 .symbols .size
 
 same-length-3 : tie.Need-same-length-3
-same-length-3 c = search needs
+same-length-3 c = c .before .before .before .before .before .before .hold .kept .1 .1 .0
 
 returns : tie.Need-returns
 returns c = (c .before .before .before .before .before .before .hold .ensures .0, keeps-trans (c .before .before .before .before .before .before .before .before .before .before .before .before .before .before .before .before .before .sift .ensures .1) (c .before .before .before .before .before .before .hold .ensures .1))
@@ -62,13 +63,13 @@ first-other-requires-2 : tie.Need-first-other-requires-2
 first-other-requires-2 c κs = search needs
 
 same-length-4 : tie.Need-same-length-4
-same-length-4 c = search needs
+same-length-4 c = c .before .before .before .before .before .before .before .before .before .before .sift .ensures .1 .rows .size
 
 same-length-5 : tie.Need-same-length-5
-same-length-5 c = search needs
+same-length-5 c = c .before .before .before .before .before .before .before .before .before .before .sift .ensures .1 .symbols .size
 
 same-length-6 : tie.Need-same-length-6
-same-length-6 c = search needs
+same-length-6 c = refl
 
 returns-2 : tie.Need-returns-2
 returns-2 c =
@@ -87,13 +88,13 @@ returns-2 c =
     )
 
 same-length-7 : tie.Need-same-length-7
-same-length-7 c = search needs
+same-length-7 c = c .before .before .before .before .before .before .before .before .before .before .sift .ensures .1 .rows .size
 
 same-length-8 : tie.Need-same-length-8
-same-length-8 c = search needs
+same-length-8 c = c .before .before .before .before .before .before .before .before .before .before .sift .ensures .1 .symbols .size
 
 same-length-9 : tie.Need-same-length-9
-same-length-9 c = search needs
+same-length-9 c = refl
 
 returns-3 : tie.Need-returns-3
 returns-3 c =

@@ -1,8 +1,8 @@
 -- `solver::beneath::finish::deliver` meets its contract.
 -- Assumes nothing.
-use borrow.Author.Needs.{needs}
 use mathlib.Core.Path.{refl}
 use native.Mathlib.Omega.{arith}
+use borrow.Author.Needs.{needs}
 use Rattle.solver.proofs.beneath.finish.deliver.Statement.{statement}
 use Rattle.solver.proofs.beneath.finish.deliver.Tie as tie
 

@@ -1,15 +1,15 @@
 -- `solver::beneath::finish::gather` meets its contract: after k turns the symbols of the first k held rows are in their columns.
 -- Assumes nothing.
+use mathlib.Core.Path.{_≡_}
 use Prim.Native.Nat.{_*_, _-_, _≤_}
-use Rattle.linear.proofs.Finish.{gather-none, gather-more, gather-only}
-use Rattle.linear.proofs.Rows.{only-refl, only-trans}
+use native.Mathlib.Omega.{arith}
+use borrow.Author.Needs.{needs}
 use Rattle.linear.specs.Elimination.{Gathered}
 use Rattle.linear.specs.Rows.{OnlyBelow}
-use Rattle.solver.proofs.Rows.{row-in}
+use Rattle.linear.proofs.Finish.{gather-none, gather-more, gather-only}
+use Rattle.linear.proofs.Rows.{only-refl, only-trans}
 use Rattle.solver.specs.Steps.{column}
-use borrow.Author.Needs.{needs}
-use mathlib.Core.Path.{_≡_}
-use native.Mathlib.Omega.{arith}
+use Rattle.solver.proofs.Rows.{row-in}
 use Rattle.solver.proofs.beneath.finish.gather.Statement.{statement}
 use Rattle.solver.proofs.beneath.finish.gather.Tie as tie
 

@@ -1,10 +1,10 @@
 -- `solver::beneath::finish::solve_stored` meets its contract: the elimination keeps what the stores say, and what it comes to is what the verdict means.
 -- Assumes nothing.
+use native.Mathlib.Omega.{arith}
+use borrow.Author.Needs.{needs}
 use Rattle.linear.proofs.Rows.{only-then}
 use Rattle.solver.proofs.Finish.{due, right}
 use Rattle.solver.proofs.Steps.{room-kept}
-use borrow.Author.Needs.{needs}
-use native.Mathlib.Omega.{arith}
 use Rattle.solver.proofs.beneath.finish.solve_stored.Statement.{statement}
 use Rattle.solver.proofs.beneath.finish.solve_stored.Tie as tie
 

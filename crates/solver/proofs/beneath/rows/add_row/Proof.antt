@@ -1,9 +1,9 @@
 -- `solver::beneath::rows::add_row` meets its contract: a factor 1 asks for no product.
 -- Assumes nothing.
+use native.Mathlib.Omega.{arith}
+use borrow.Author.Needs.{needs}
 use Rattle.linear.proofs.Rows.{row-added-once}
 use Rattle.solver.proofs.Rows.{sum-rows, fused-rows}
-use borrow.Author.Needs.{needs}
-use native.Mathlib.Omega.{arith}
 use Rattle.solver.proofs.beneath.rows.add_row.Statement.{statement}
 use Rattle.solver.proofs.beneath.rows.add_row.Tie as tie
 

@@ -1,12 +1,12 @@
 -- `solver::beneath::rows::copy_row` meets its contract: after c turns the first c octets of the row are there.
 -- Assumes nothing.
-use Prim.Native.Nat.{ℕ, _*_, _-_, _≤_}
-use Rattle.field.proofs.Writing.{written-none, written-more, written-is}
-use Rattle.field.specs.Runs.{Written}
-use Rattle.linear.specs.Bytes.{cell}
-use borrow.Author.Needs.{needs}
 use mathlib.Core.Path.{refl}
+use Prim.Native.Nat.{ℕ, _*_, _-_, _≤_}
 use native.Mathlib.Omega.{arith}
+use borrow.Author.Needs.{needs}
+use Rattle.field.specs.Runs.{Written}
+use Rattle.field.proofs.Writing.{written-none, written-more, written-is}
+use Rattle.linear.specs.Bytes.{cell}
 use Rattle.solver.proofs.beneath.rows.copy_row.Statement.{statement}
 use Rattle.solver.proofs.beneath.rows.copy_row.Tie as tie
 

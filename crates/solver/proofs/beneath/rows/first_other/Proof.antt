@@ -1,11 +1,11 @@
 -- `solver::beneath::rows::first_other` meets its contract: every place that was passed is 0.
 -- Assumes nothing.
-use Prim.Native.Nat.{ℕ, _-_, _≤_, _<_}
-use Rattle.solver.proofs.Rows.{zeros-more}
-use borrow.Author.Needs.{needs}
-use lib.ListN.{getD}
 use mathlib.Core.Path.{_≡_}
+use Prim.Native.Nat.{ℕ, _-_, _≤_, _<_}
 use native.Mathlib.Omega.{arith}
+use lib.ListN.{getD}
+use borrow.Author.Needs.{needs}
+use Rattle.solver.proofs.Rows.{zeros-more}
 use Rattle.solver.proofs.beneath.rows.first_other.Statement.{statement}
 use Rattle.solver.proofs.beneath.rows.first_other.Tie as tie
 

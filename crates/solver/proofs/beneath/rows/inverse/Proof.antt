@@ -1,9 +1,9 @@
 -- `solver::beneath::rows::inverse` meets its contract: 1 divided by the octet, and 0 for 0.
 -- Assumes nothing.
+use mathlib.Core.Path.{sym, ap, _∙_}
+use borrow.Author.Needs.{needs}
 use Rattle.field.specs.Answer.{outcome}
 use Rattle.solver.proofs.Rows.{quotient-inverse, refused-inverse}
-use borrow.Author.Needs.{needs}
-use mathlib.Core.Path.{sym, ap, _∙_}
 use Rattle.solver.proofs.beneath.rows.inverse.Statement.{statement}
 use Rattle.solver.proofs.beneath.rows.inverse.Tie as tie
 

@@ -1,8 +1,8 @@
 -- `solver::beneath::rows::make_one` meets its contract: a row that is 1 there stays as it is.
 -- Assumes nothing.
-use Rattle.solver.proofs.Rows.{times-inverse-one}
-use borrow.Author.Needs.{needs}
 use native.Mathlib.Omega.{arith}
+use borrow.Author.Needs.{needs}
+use Rattle.solver.proofs.Rows.{times-inverse-one}
 use Rattle.solver.proofs.beneath.rows.make_one.Statement.{statement}
 use Rattle.solver.proofs.beneath.rows.make_one.Tie as tie
 

@@ -1,7 +1,7 @@
 -- `solver::beneath::rows::move_row` meets its contract: to add a row to 0 is to copy it, to itself to clear it.
 -- Assumes nothing.
-use Rattle.solver.proofs.Rows.{moved, apart-back}
 use borrow.Author.Needs.{needs}
+use Rattle.solver.proofs.Rows.{moved, apart-back}
 use Rattle.solver.proofs.beneath.rows.move_row.Statement.{statement}
 use Rattle.solver.proofs.beneath.rows.move_row.Tie as tie
 

@@ -1,7 +1,7 @@
 -- `solver::beneath::rows::scale_row` meets its contract.
 -- Assumes nothing.
-use Rattle.solver.proofs.Rows.{scaled-row}
 use borrow.Author.Needs.{needs}
+use Rattle.solver.proofs.Rows.{scaled-row}
 use Rattle.solver.proofs.beneath.rows.scale_row.Statement.{statement}
 use Rattle.solver.proofs.beneath.rows.scale_row.Tie as tie
 

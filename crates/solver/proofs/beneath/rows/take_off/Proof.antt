@@ -1,7 +1,7 @@
 -- `solver::beneath::rows::take_off` meets its contract: a factor 0 adds nothing.
 -- Assumes nothing.
-use Rattle.linear.proofs.Rows.{row-added-none}
 use borrow.Author.Needs.{needs}
+use Rattle.linear.proofs.Rows.{row-added-none}
 use Rattle.solver.proofs.beneath.rows.take_off.Statement.{statement}
 use Rattle.solver.proofs.beneath.rows.take_off.Tie as tie
 

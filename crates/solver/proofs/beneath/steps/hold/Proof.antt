@@ -1,13 +1,12 @@
 -- `solver::beneath::steps::hold` meets its contract: row i is made 1 there, gets its place, and goes off the others.
 -- Assumes nothing.
+use mathlib.Core.Path.{refl, _∙_}
 use Prim.Native.Nat.{_+_}
+use native.Mathlib.Omega.{arith}
 use Rattle.linear.proofs.Elimination.{scale-row, scale-one, scale-keeps}
 use Rattle.linear.proofs.Keeping.{keeps-trans}
 use Rattle.solver.proofs.Rows.{row-in}
 use Rattle.solver.proofs.Steps.{room-kept}
-use borrow.Author.Needs.{needs}
-use mathlib.Core.Path.{refl, _∙_}
-use native.Mathlib.Omega.{arith}
 use Rattle.solver.proofs.beneath.steps.hold.Statement.{statement}
 use Rattle.solver.proofs.beneath.steps.hold.Tie as tie
 
@@ -32,13 +31,13 @@ join-requires c κs =
     ((room-kept (s .pre .0 .0) (u .1 .rows .size ∙ e .0 .size) (u .1 .symbols .size ∙ e .1 .size), omega (arith, s .pre .0 .1, c .before .before .before .before .before .before .before .before .before .settle .kept)), u .0)
 
 same-length : tie.Need-same-length
-same-length c = search needs
+same-length c = c .before .before .before .before .join .ensures .1 .rows .size ∙ c .before .before .before .before .before .before .before .before .before .before .before .before .before .before .settle .ensures .1 .rows .size ∙ c .before .before .before .before .before .before .before .before .before .before .before .before .before .before .before .before .before .before .before .before .before .before .make-one .ensures .0 .size
 
 same-length-2 : tie.Need-same-length-2
-same-length-2 c = search needs
+same-length-2 c = c .before .before .before .before .join .ensures .1 .symbols .size ∙ c .before .before .before .before .before .before .before .before .before .before .before .before .before .before .settle .ensures .1 .symbols .size ∙ c .before .before .before .before .before .before .before .before .before .before .before .before .before .before .before .before .before .before .before .before .before .before .make-one .ensures .1 .size
 
 same-length-3 : tie.Need-same-length-3
-same-length-3 c = search needs
+same-length-3 c = c .before .before .before .before .before .before .before .before .before .before .before .before .before .before .settle .kept .1 .1 .0
 
 returns : tie.Need-returns
 returns c =

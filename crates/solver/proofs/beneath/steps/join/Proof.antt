@@ -1,14 +1,14 @@
 -- `solver::beneath::steps::join` meets its contract: after k turns row r is off the first k.
 -- Assumes nothing.
+use mathlib.Core.Path.{_≡_, refl}
 use Prim.Native.Nat.{_+_, _-_, _≤_}
+use native.Mathlib.Omega.{arith}
+use borrow.Author.Needs.{needs}
+use Rattle.linear.specs.Elimination.{Joining, Keeps}
 use Rattle.linear.proofs.Elimination.{join-row, join-keeps, join-end}
 use Rattle.linear.proofs.Keeping.{keeps-refl, keeps-trans}
-use Rattle.linear.specs.Elimination.{Joining, Keeps}
-use Rattle.solver.proofs.Rows.{rows-apart}
 use Rattle.solver.specs.Steps.{column}
-use borrow.Author.Needs.{needs}
-use mathlib.Core.Path.{_≡_, refl}
-use native.Mathlib.Omega.{arith}
+use Rattle.solver.proofs.Rows.{rows-apart}
 use Rattle.solver.proofs.beneath.steps.join.Statement.{statement}
 use Rattle.solver.proofs.beneath.steps.join.Tie as tie
 

@@ -1,11 +1,11 @@
 -- `solver::beneath::steps::settle` meets its contract: row i stands in place r already, or moves there.
 -- Assumes nothing.
 use Prim.Native.Nat.{_+_, _<_}
+use native.Mathlib.Omega.{arith}
+use borrow.Author.Needs.{needs}
 use Rattle.linear.proofs.Elimination.{next-pivot, settle-here, settle-moved, settle-keeps}
 use Rattle.linear.proofs.Keeping.{keeps-refl}
 use Rattle.solver.proofs.Rows.{rows-apart}
-use borrow.Author.Needs.{needs}
-use native.Mathlib.Omega.{arith}
 use Rattle.solver.proofs.beneath.steps.settle.Statement.{statement}
 use Rattle.solver.proofs.beneath.steps.settle.Tie as tie
 

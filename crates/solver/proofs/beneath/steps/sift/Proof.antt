@@ -1,14 +1,14 @@
 -- `solver::beneath::steps::sift` meets its contract: after k turns the first k held rows are off row i.
 -- Assumes nothing.
+use mathlib.Core.Path.{_≡_, refl}
 use Prim.Native.Nat.{_+_, _-_, _≤_}
+use native.Mathlib.Omega.{arith}
+use borrow.Author.Needs.{needs}
+use Rattle.linear.specs.Elimination.{Sifted, Keeps}
 use Rattle.linear.proofs.Elimination.{sift-begin, sift-row, sift-keeps}
 use Rattle.linear.proofs.Keeping.{keeps-refl, keeps-trans}
-use Rattle.linear.specs.Elimination.{Sifted, Keeps}
-use Rattle.solver.proofs.Rows.{rows-apart}
 use Rattle.solver.specs.Steps.{column}
-use borrow.Author.Needs.{needs}
-use mathlib.Core.Path.{_≡_, refl}
-use native.Mathlib.Omega.{arith}
+use Rattle.solver.proofs.Rows.{rows-apart}
 use Rattle.solver.proofs.beneath.steps.sift.Statement.{statement}
 use Rattle.solver.proofs.beneath.steps.sift.Tie as tie
 
