@@ -38,7 +38,7 @@ unsafe extern "C" {
     fn spoonripple_matrix_swap_columns(words: *mut u64, len: usize, height: usize, width: usize, i: usize, j: usize, start: usize) -> u32;
     fn spoonripple_matrix_add_assign_rows(words: *mut u64, len: usize, height: usize, width: usize, dest: usize, src: usize) -> u32;
     fn spoonripple_matrix_resize(words: *mut u64, len: usize, height: usize, width: usize, new_height: usize, new_width: usize) -> u32;
-    fn spoonripple_enc_indices(k: u32, j: u32, s: u32, h: u32, w: u32, d: u32, a: u32, b: u32, d1: u32, a1: u32, b1: u32, list: *mut u32, list_len: usize, out: *mut u64, room: usize) -> u32;
+    fn spoonripple_enc_indices(k: u32, j: u32, s: u32, h: u32, w: u32, d: u32, a: u32, b: u32, d1: u32, a1: u32, b1: u32, list: *mut u32, list_len: usize) -> u32;
     fn spoonripple_hdpc_rows(k: u32, j: u32, s: u32, h: u32, w: u32, tables: *const u32, len: usize, store: *mut u8, store_len: usize) -> u32;
     fn spoonripple_constraint_matrix(k: u32, j: u32, s: u32, h: u32, w: u32, tables: *const u32, len: usize, ids: *const u32, n: usize, words: *mut u64, words_len: usize) -> u32;
     fn spoonripple_constraint_matrix_no_hdpc(k: u32, j: u32, s: u32, h: u32, w: u32, tables: *const u32, len: usize, ids: *const u32, n: usize, words: *mut u64, words_len: usize) -> u32;
@@ -211,8 +211,8 @@ pub fn matrix_resize(words: &mut [u64], m: Shape, new: Shape) -> Answer<()> {
     done(unsafe { spoonripple_matrix_resize(words.as_mut_ptr(), words.len(), m.height, m.width, new.height, new.width) })
 }
 
-pub fn enc_indices([k, j, s, h, w]: Row, [d, a, b, d1, a1, b1]: [u32; 6], list: &mut [u32], out: &mut [u64]) -> Answer<()> {
-    done(unsafe { spoonripple_enc_indices(k, j, s, h, w, d, a, b, d1, a1, b1, list.as_mut_ptr(), list.len(), out.as_mut_ptr(), out.len()) })
+pub fn enc_indices([k, j, s, h, w]: Row, [d, a, b, d1, a1, b1]: [u32; 6], list: &mut [u32]) -> Answer<()> {
+    done(unsafe { spoonripple_enc_indices(k, j, s, h, w, d, a, b, d1, a1, b1, list.as_mut_ptr(), list.len()) })
 }
 
 pub fn hdpc_rows([k, j, s, h, w]: Row, tables: &[u32], store: &mut [u8]) -> Answer<()> {

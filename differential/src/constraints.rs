@@ -2,7 +2,7 @@
 use differential::archive::{self, Row};
 use differential::report::Report;
 use differential::rows::{self, sizes};
-use differential::{Random, caught, values};
+use differential::{Random, caught};
 use raptorq_lent::constraint_matrix::{self as theirs, enc_indices};
 use raptorq_lent::matrix::DenseBinaryMatrix;
 use raptorq_lent::rng::lent as tables_lent;
@@ -16,12 +16,12 @@ fn in_bounds([d, a, b, d1, a1, b1]: [u32; 6], w: u32, p1: u32) -> bool {
 /// Our walk: the places at the front of a list with room for `room`, or the refusal; the rest of the list has to stay.
 fn walk(row: Row, tuple: [u32; 6], room: usize) -> Result<Vec<u32>, u32> {
     let mut list = vec![0xABCD_EF01; room];
-    let n = values(1, |out| archive::enc_indices(row, tuple, &mut list, out)).map(|v| v[0] as usize);
-    let used = *n.as_ref().unwrap_or(&0);
+    let answer = archive::enc_indices(row, tuple, &mut list);
+    let used = if answer.is_ok() { (tuple[0] + tuple[3]) as usize } else { 0 };
     if list[used..].iter().any(|x| *x != 0xABCD_EF01) {
         return Err(99);
     }
-    n.map(|n| list[..n].to_vec())
+    answer.map(|()| list[..used].to_vec())
 }
 
 fn walks(report: &mut Report, random: &mut Random, count: u64) {

@@ -1,4 +1,5 @@
 //! `differential AREA [COUNT] [SEED]`: see the script `run` beside this folder.
+mod constraints;
 mod field;
 mod headers;
 mod matrix;
@@ -18,8 +19,8 @@ fn main() {
         eprintln!("usage: run AREA [COUNT] [SEED]");
         std::process::exit(2);
     };
-    let areas: [(&str, fn(u64, u64) -> bool); 4] =
-        [("field", field::run), ("headers", headers::run), ("matrix", matrix::run), ("slab", slab::run)];
+    let areas: [(&str, fn(u64, u64) -> bool); 5] =
+        [("field", field::run), ("headers", headers::run), ("matrix", matrix::run), ("slab", slab::run), ("constraints", constraints::run)];
     let mut ran = false;
     let mut same = true;
     for (name, run) in areas {

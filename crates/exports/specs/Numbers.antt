@@ -40,3 +40,6 @@ slab count t = record { count = count; size = t }
 
 abbrev pub bounds : ℕ × ℕ → List ℕ
 bounds r = r .0 ∷ r .1 ∷ []
+
+abbrev pub tuple : ℕ → ℕ → ℕ → ℕ → ℕ → ℕ → Tuple
+tuple d a b d1 a1 b1 = record { d = d; a = a; b = b; d1 = d1; a1 = a1; b1 = b1 }

@@ -5,5 +5,6 @@ pub mod octets;
 pub mod packets;
 pub mod runs;
 pub mod symbols;
+pub mod systems;
 pub mod tuples;
 mod values;
