@@ -112,6 +112,20 @@ uint32_t spoonripple_matrix_add_assign_rows(uint64_t *words, size_t words_len, s
  * new numbers too), 8, then 6 (a size that grows). */
 uint32_t spoonripple_matrix_resize(uint64_t *words, size_t words_len, size_t height, size_t width, size_t new_height, size_t new_width);
 
+/* The walk of a tuple (5.3.5.3): d + d1 places, in walk order, at the front of list. Refusals: 4, 2 (the tuple is outside its bounds), 8. */
+uint32_t spoonripple_enc_indices(uint32_t k, uint32_t j, uint32_t s, uint32_t h, uint32_t w, uint32_t d, uint32_t a, uint32_t b, uint32_t d1, uint32_t a1, uint32_t b1,
+                                 uint32_t *list, size_t list_len);
+
+/* The HDPC rows (5.3.3.3): H rows of L octets, row after row, at the front of store. Refusals: 4, 5, 8. */
+uint32_t spoonripple_hdpc_rows(uint32_t k, uint32_t j, uint32_t s, uint32_t h, uint32_t w, const uint32_t *tables, size_t len, uint8_t *store, size_t store_len);
+
+/* The constraint matrix as bits: S LDPC rows, H rows of 0 (none in the second), one row for each ISI of any 32 bits; ceil(L/64) words a row.
+ * Refusals: 4, 5, 9 (below K' ids, below K' + H in the second, more than 65,535), 8. */
+uint32_t spoonripple_constraint_matrix(uint32_t k, uint32_t j, uint32_t s, uint32_t h, uint32_t w, const uint32_t *tables, size_t len, const uint32_t *isis, size_t count,
+                                       uint64_t *words, size_t words_len);
+uint32_t spoonripple_constraint_matrix_no_hdpc(uint32_t k, uint32_t j, uint32_t s, uint32_t h, uint32_t w, const uint32_t *tables, size_t len, const uint32_t *isis, size_t count,
+                                               uint64_t *words, size_t words_len);
+
 #ifdef __cplusplus
 }
 #endif

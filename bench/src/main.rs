@@ -1,4 +1,5 @@
 //! One line a piece of work: our time over that of plain Rust, both taken in this process in turns, the best of several rounds.
+mod builders;
 mod field;
 mod stores;
 
@@ -31,4 +32,5 @@ pub fn line(work: &str, against: &str, ratio: f64, bar: Option<f64>) {
 fn main() {
     field::run();
     stores::run();
+    builders::run();
 }
