@@ -1,0 +1,85 @@
+-- What is known where a symbol may be encoded; that the walk of a generated tuple fits the working list; and the symbol of an ESI by its walk.
+-- Assumes nothing.
+use mathlib.Core.Path.{_≡_, ap, _∙_, subst}
+use mathlib.Core.Bool.{not}
+use mathlib.Core.List.{List}
+use Prim.Native.Nat.{ℕ, _+_, _*_, _<_, _≤_}
+use native.Mathlib.Decide.{ℕ-discrete}
+use native.Mathlib.Omega.{arith}
+use borrow.Author.Tests.{ltb-false, leb-false, eqb-true, eqb-false, not-false}
+use lib.Dec.{eqb, leb, ltb}
+use lib.ListN.{length}
+use Rattle.field.specs.Answer.{Outcome, given, unless}
+use Rattle.field.specs.Runs.{Written}
+use Rattle.field.proofs.Refusals.{passed}
+use Rattle.headers.specs.Row.{Obeys, obeys, between, lOf, pOf, p1Of}
+use Rattle.headers.specs.Tuples.{Bounds, tupleOf}
+use Rattle.headers.specs.declared.row.Row.{Row}
+use Rattle.headers.specs.declared.tuple.Tuple.{Tuple}
+use Rattle.headers.proofs.Accepted.{obeys-tells, l-is, ready}
+use Rattle.headers.proofs.Tests.{tells-both, tells-le}
+use Rattle.headers.proofs.Tuples.{bounded, three-below-four}
+use Rattle.constraints.specs.Encoding.{enc}
+use Rattle.constraints.specs.Walk.{places}
+use Rattle.encoding.specs.Encoded.{allowed, encoded, walked, tupleOn, steps}
+
+pub record Allowed (r : Row) (tables k t esi have room : ℕ) : Type 0 where
+  pub rules : Obeys r
+  pub all : tables ≡ 1024
+  pub k-low : 1 ≤ k
+  pub k-high : k ≤ r .k
+  pub sent : esi < 16777216
+  pub some : t ≡ 0 → ⊥
+  pub enough : lOf r * t ≤ have
+  pub fits : t ≤ room
+
+pub allowed-well : (r : Row) (tables k t esi have room : ℕ) → allowed r tables k t esi have room ≡ given tt → Allowed r tables k t esi have room
+allowed-well r tables k t esi have room e =
+    let o8 : Outcome (Unit {0}) = unless (ltb room t) 8 (given tt) in
+    let o7 : Outcome (Unit {0}) = unless (ltb have (lOf r * t)) 8 o8 in
+    let o6 : Outcome (Unit {0}) = unless (eqb t 0) 10 o7 in
+    let o5 : Outcome (Unit {0}) = unless (leb 16777216 esi) 9 o6 in
+    let o4 : Outcome (Unit {0}) = unless (not (between 1 k (r .k))) 9 o5 in
+    let p1 = passed (not (obeys r)) 4 (unless (not (eqb tables 1024)) 5 o4) tt e in
+    let p2 = passed (not (eqb tables 1024)) 5 o4 tt (p1 .1) in
+    let p4 = passed (not (between 1 k (r .k))) 9 o5 tt (p2 .1) in
+    let p5 = passed (leb 16777216 esi) 9 o6 tt (p4 .1) in
+    let p6 = passed (eqb t 0) 10 o7 tt (p5 .1) in
+    let p7 = passed (ltb have (lOf r * t)) 8 o8 tt (p6 .1) in
+    let p8 = passed (ltb room t) 8 (given tt) tt (p7 .1) in
+    let b = tells-both (tells-le 1 k) (tells-le k (r .k)) .passes (not-false (between 1 k (r .k)) (p4 .0)) in
+    record {
+      rules = obeys-tells r .passes (not-false (obeys r) (p1 .0));
+      all = eqb-true tables 1024 (not-false (eqb tables 1024) (p2 .0));
+      k-low = b .0;
+      k-high = b .1;
+      sent = omega (arith, leb-false 16777216 esi (p5 .0));
+      some = eqb-false t 0 (p6 .0);
+      enough = ltb-false have (lOf r * t) (p7 .0);
+      fits = ltb-false room t (p8 .0);
+    }
+
+-- the generator gives no longer walk than the working list
+pub walk-fits : {r : Row} → Obeys r → (v : List ℕ) → length v ≡ 1024 → (x : ℕ) → steps (tupleOn v r x) ≤ 32
+walk-fits {r} o v e x =
+    let b = bounded (ready o e) x in
+    go b (ℕ-discrete (tupleOn v r x .d1) 3)
+  where
+    go : Bounds (r .w) (p1Of r) (tupleOn v r x) → Dec (tupleOn v r x .d1 ≡ 3) → steps (tupleOn v r x) ≤ 32
+    go b (yes q) = omega (arith, b .d-high, b .d1-high, three-below-four v (r .j) (r .w) (p1Of r) x q)
+    go b (no q) = omega (arith, b .d-high, b .d1-high)
+
+-- the tuple that was generated, from what its makers promise
+pub tuple-is : (v : List ℕ) (r : Row) {z : Tuple} {p1 x y : ℕ} → z ≡ tupleOf v (r .j) (r .w) p1 x → p1 ≡ p1Of r → x ≡ y → z ≡ tupleOn v r y
+tuple-is v r {x = x} e f g = e ∙ ap (λ (q : ℕ). tupleOf v (r .j) (r .w) q x) f ∙ ap (tupleOn v r) g
+
+-- the sum over the walk is that over the row
+pub encoded-walk : {r : Row} → Obeys r → (v : List ℕ) (x t : ℕ) (C : List ℕ) {z : Tuple} {p p1 : ℕ} {xs ys : List ℕ} → z ≡ tupleOn v r x → p ≡ pOf r → p1 ≡ p1Of r
+    → Written (walked t C (r .w + p) (places (r .w) p p1 z)) xs ys 0 t → Written (encoded v r x t C) xs ys 0 t
+unfolding enc
+encoded-walk {r} o v x t C {z} {p} {p1} {xs} {ys} e f g w =
+    let l : r .w + p ≡ lOf r = omega (arith, f, l-is o) in
+    let w1 = subst (λ (n : ℕ). Written (walked t C n (places (r .w) p p1 z)) xs ys 0 t) l w in
+    let w2 = subst (λ (n : ℕ). Written (walked t C (lOf r) (places (r .w) n p1 z)) xs ys 0 t) f w1 in
+    let w3 = subst (λ (n : ℕ). Written (walked t C (lOf r) (places (r .w) (pOf r) n z)) xs ys 0 t) g w2 in
+    subst (λ (n : Tuple). Written (walked t C (lOf r) (places (r .w) (pOf r) (p1Of r) n)) xs ys 0 t) e w3

@@ -1,0 +1,78 @@
+// The symbol of an ESI from the intermediate symbols of its block (`enc` of the crate's encoder.rs).
+ghost use mathlib.Core.Path.{_≡_};
+ghost use Rattle.field.specs.Answer.{done};
+ghost use Rattle.encoding.specs.Encoded.{Encodes, allowed};
+use crate::beneath::enc;
+use field::refusal;
+use field::refusal::Refusal;
+use headers::beneath::row;
+use headers::beneath::tuple;
+use headers::ids::Esi;
+use headers::ids::beneath;
+use headers::row::Row;
+
+// What is wrong with the row or with a number.
+fn check(
+    r: Row,
+    tables: usize,
+    k: u32,
+    t: u16,
+    esi: u32,
+    have: usize,
+    room: usize,
+) -> refusal::Answer
+    ensures { λ a. ⌜ done a ≡ allowed r tables k t esi have room ⌝ }
+{
+    if !row::obeys(r) {
+        return refusal::Answer::Refused(Refusal::BadRow);
+    }
+    if tables != 1024 {
+        return refusal::Answer::Refused(Refusal::BadTables);
+    }
+    if k < 1 {
+        return refusal::Answer::Refused(Refusal::BadCount);
+    }
+    if k > r.k {
+        return refusal::Answer::Refused(Refusal::BadCount);
+    }
+    if esi >= 16777216 {
+        return refusal::Answer::Refused(Refusal::BadCount);
+    }
+    if t == 0 {
+        return refusal::Answer::Refused(Refusal::BadSize);
+    }
+    if have < row::l(r) as usize * t as usize {
+        return refusal::Answer::Refused(Refusal::WrongLength);
+    }
+    if room < t as usize {
+        return refusal::Answer::Refused(Refusal::WrongLength);
+    }
+    refusal::Answer::Done
+}
+
+// The first T octets of out become the symbol, whatever was in them.
+pub fn encode(
+    r: Row,
+    tables: &[u32],
+    k: u32,
+    t: u16,
+    esi: u32,
+    intermediates: &[u8],
+    out: &mut [u8],
+) -> refusal::Answer
+    ensures { λ a. ⌜ Encodes (now (tables .entry)) r k t esi (now (intermediates .entry)) (now (out .entry)) (now (out .exit)) a ⌝ }
+{
+    let may = check(r, tables.len(), k, t, esi, intermediates.len(), out.len());
+    let refusal::Answer::Done = may else {
+        return may;
+    };
+    let x = beneath::isi_of(r.k, k, Esi(esi));
+    let p1 = row::p1(r);
+    let z = tuple::intermediate_tuple(tables, x, r.w, r.j, p1);
+    // The generator gives no such walk.
+    if z.d + z.d1 > 32 {
+        return refusal::Answer::Refused(Refusal::WrongLength);
+    }
+    enc::enc(out, t as usize, intermediates, z, r.w, row::p(r), p1);
+    refusal::Answer::Done
+}
