@@ -126,6 +126,11 @@ uint32_t spoonripple_constraint_matrix(uint32_t k, uint32_t j, uint32_t s, uint3
 uint32_t spoonripple_constraint_matrix_no_hdpc(uint32_t k, uint32_t j, uint32_t s, uint32_t h, uint32_t w, const uint32_t *tables, size_t len, const uint32_t *isis, size_t count,
                                                uint64_t *words, size_t words_len);
 
+/* The symbol of an ESI (5.3.5.3) of a block of count source symbols of t octets, from its L * t octets of intermediate symbols: t octets at the front of out.
+ * Refusals: 4, 5, 9 (count not in 1..K', esi of 2^24 or more), 10 (t is 0), 8 (intermediates or out too short). */
+uint32_t spoonripple_encode(uint32_t k, uint32_t j, uint32_t s, uint32_t h, uint32_t w, const uint32_t *tables, size_t len, uint32_t count, uint16_t t, uint32_t esi,
+                            const uint8_t *intermediates, size_t intermediates_len, uint8_t *out, size_t out_len);
+
 #ifdef __cplusplus
 }
 #endif

@@ -42,6 +42,7 @@ unsafe extern "C" {
     fn spoonripple_hdpc_rows(k: u32, j: u32, s: u32, h: u32, w: u32, tables: *const u32, len: usize, store: *mut u8, store_len: usize) -> u32;
     fn spoonripple_constraint_matrix(k: u32, j: u32, s: u32, h: u32, w: u32, tables: *const u32, len: usize, ids: *const u32, n: usize, words: *mut u64, words_len: usize) -> u32;
     fn spoonripple_constraint_matrix_no_hdpc(k: u32, j: u32, s: u32, h: u32, w: u32, tables: *const u32, len: usize, ids: *const u32, n: usize, words: *mut u64, words_len: usize) -> u32;
+    fn spoonripple_encode(k: u32, j: u32, s: u32, h: u32, w: u32, tables: *const u32, len: usize, count: u32, t: u16, esi: u32, intermediates: *const u8, intermediates_len: usize, out: *mut u8, out_len: usize) -> u32;
     fn spoonripple_run_add(dst: *mut u8, dst_len: usize, src: *const u8, src_len: usize) -> u32;
     fn spoonripple_run_scale(dst: *mut u8, dst_len: usize, c: u8) -> u32;
     fn spoonripple_run_fma(dst: *mut u8, dst_len: usize, src: *const u8, src_len: usize, c: u8) -> u32;
@@ -225,4 +226,10 @@ pub fn constraint_matrix([k, j, s, h, w]: Row, tables: &[u32], ids: &[u32], word
 
 pub fn constraint_matrix_no_hdpc([k, j, s, h, w]: Row, tables: &[u32], ids: &[u32], words: &mut [u64]) -> Answer<()> {
     done(unsafe { spoonripple_constraint_matrix_no_hdpc(k, j, s, h, w, tables.as_ptr(), tables.len(), ids.as_ptr(), ids.len(), words.as_mut_ptr(), words.len()) })
+}
+
+pub fn encode([k, j, s, h, w]: Row, tables: &[u32], count: u32, t: u16, esi: u32, intermediates: &[u8], out: &mut [u8]) -> Answer<()> {
+    done(unsafe {
+        spoonripple_encode(k, j, s, h, w, tables.as_ptr(), tables.len(), count, t, esi, intermediates.as_ptr(), intermediates.len(), out.as_mut_ptr(), out.len())
+    })
 }

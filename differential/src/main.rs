@@ -1,5 +1,6 @@
 //! `differential AREA [COUNT] [SEED]`: see the script `run` beside this folder.
 mod constraints;
+mod encoding;
 mod field;
 mod headers;
 mod matrix;
@@ -19,8 +20,8 @@ fn main() {
         eprintln!("usage: run AREA [COUNT] [SEED]");
         std::process::exit(2);
     };
-    let areas: [(&str, fn(u64, u64) -> bool); 5] =
-        [("field", field::run), ("headers", headers::run), ("matrix", matrix::run), ("slab", slab::run), ("constraints", constraints::run)];
+    let areas: [(&str, fn(u64, u64) -> bool); 6] =
+        [("field", field::run), ("headers", headers::run), ("matrix", matrix::run), ("slab", slab::run), ("constraints", constraints::run), ("encoding", encoding::run)];
     let mut ran = false;
     let mut same = true;
     for (name, run) in areas {
