@@ -1,15 +1,15 @@
 -- What is known where a symbol may be encoded; that the walk of a generated tuple fits the working list; and the symbol of an ESI by its walk.
 -- Assumes nothing.
-use mathlib.Core.Path.{_≡_, ap, _∙_, subst}
+use mathlib.Core.Path.{_≡_, refl, ap, _∙_, subst}
 use mathlib.Core.Bool.{not}
 use mathlib.Core.List.{List}
 use Prim.Native.Nat.{ℕ, _+_, _*_, _<_, _≤_}
 use native.Mathlib.Decide.{ℕ-discrete}
 use native.Mathlib.Omega.{arith}
-use borrow.Author.Tests.{ltb-false, leb-false, eqb-true, eqb-false, not-false}
+use borrow.Author.Tests.{ltb-false, leb-false, eqb-true, eqb-false, not-false, le-ltb}
 use lib.Dec.{eqb, leb, ltb}
 use lib.ListN.{length}
-use Rattle.field.specs.Answer.{Outcome, given, unless}
+use Rattle.field.specs.Answer.{Outcome, before, given, refused, unless}
 use Rattle.field.specs.Runs.{Written}
 use Rattle.field.proofs.Refusals.{passed}
 use Rattle.headers.specs.Row.{Obeys, obeys, between, lOf, pOf, p1Of}
@@ -21,7 +21,8 @@ use Rattle.headers.proofs.Tests.{tells-both, tells-le}
 use Rattle.headers.proofs.Tuples.{bounded, three-below-four}
 use Rattle.constraints.specs.Encoding.{enc}
 use Rattle.constraints.specs.Walk.{places}
-use Rattle.encoding.specs.Encoded.{allowed, encoded, walked, tupleOn, steps}
+use Rattle.headers.specs.Shift.{shifted}
+use Rattle.encoding.specs.Encoded.{allowed, encodes, encoded, walked, tupleOn, steps}
 
 pub record Allowed (r : Row) (tables k t esi have room : ℕ) : Type 0 where
   pub rules : Obeys r
@@ -68,6 +69,19 @@ walk-fits {r} o v e x =
     go : Bounds (r .w) (p1Of r) (tupleOn v r x) → Dec (tupleOn v r x .d1 ≡ 3) → steps (tupleOn v r x) ≤ 32
     go b (yes q) = omega (arith, b .d-high, b .d1-high, three-below-four v (r .j) (r .w) (p1Of r) x q)
     go b (no q) = omega (arith, b .d-high, b .d1-high)
+
+-- so that the refusal of a longer one is never given
+pub never-long : (v : List ℕ) (r : Row) (k t esi have room : ℕ) → encodes v r k t esi have room ≡ allowed r (length v) k t esi have room
+never-long v r k t esi have room = go (allowed r (length v) k t esi have room) refl
+  where
+    x : ℕ
+    x = shifted esi k (r .k)
+
+    go : (o : Outcome (Unit {0})) → allowed r (length v) k t esi have room ≡ o → before o (unless (ltb 32 (steps (tupleOn v r x))) 8 (given tt)) ≡ o
+    go (given u) e =
+        let h = allowed-well r (length v) k t esi have room e in
+        simp (le-ltb _ _ (walk-fits (h .rules) v (h .all) x))
+    go (refused n) e = refl
 
 -- the tuple that was generated, from what its makers promise
 pub tuple-is : (v : List ℕ) (r : Row) {z : Tuple} {p1 x y : ℕ} → z ≡ tupleOf v (r .j) (r .w) p1 x → p1 ≡ p1Of r → x ≡ y → z ≡ tupleOn v r y

@@ -88,12 +88,12 @@ module _ (w p p1 : ℕ) (z : Tuple) (s : Walks w p p1) (b : Bounds w p1 z) (t : 
   held : (k : ℕ) → k < z .d + z .d1 → getD list k 0 ≡ getD (places w p p1 z) k 0
   held k h = ap (λ (i : ℕ). getD list i 0) (sym (zero-add k)) ∙ laid .part k (omega (arith, places-length w p p1 z s b))
 
-  pub addable : z .d + z .d1 ≤ length list → t ≤ length xs → (w + p) * t ≤ length C → Addable t ys C list (z .d + z .d1)
-  addable r room enough =
+  pub addable : {n : ℕ} → n ≤ z .d + z .d1 → z .d + z .d1 ≤ length list → t ≤ length xs → (w + p) * t ≤ length C → Addable t ys C list n
+  addable {n} some r room enough =
       record {
-        read = r;
+        read = omega arith;
         inside = λ k h.
-            let l : getD list k 0 < w + p = subst (λ (n : ℕ). n < w + p) (sym (held k h)) (places-lt w p p1 z s b k (omega (arith, places-length w p p1 z s b))) in
+            let l : getD list k 0 < w + p = subst (λ (q : ℕ). q < w + p) (sym (held k (omega arith))) (places-lt w p p1 z s b k (omega (arith, places-length w p p1 z s b))) in
             omega (arith, block-ends t l);
         room = omega (arith, clear .size);
       }

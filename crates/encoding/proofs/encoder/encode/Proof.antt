@@ -55,7 +55,7 @@ returns c =
     }
 
 isi-of-requires : tie.Need-isi-of-requires
-isi-of-requires c κs = let h = well c in (h .sent, h .k-high, h .rules .ranges .k-16)
+isi-of-requires c κs = let h = well c in (h .sent, omega (arith, h .k-high), h .rules .ranges .k-16)
 
 p1-requires : tie.Need-p1-requires
 p1-requires c κs = well (c .before) .rules

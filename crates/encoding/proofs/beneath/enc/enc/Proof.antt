@@ -29,7 +29,7 @@ add-symbols-requires c κs =
     let s = c .before .before .before .before .before .before .before .before .before .before .before .before in
     let a = s .args in
     addable (a .w) (a .p) (a .p1) (a .tuple) (s .pre .0) (s .pre .1) (a .t) (a .intermediates .now) (c .before .before .before .before .before .before .before .before .enc-indices .ensures)
-    (c .before .before .before .before .before .clear .ensures) (search needs) (s .pre .3) (s .pre .4)
+    (c .before .before .before .before .before .clear .ensures) (omega (arith, s .pre .1 .d-low)) (search needs) (s .pre .3) (s .pre .4)
 
 same-length : tie.Need-same-length
 same-length c = search needs
