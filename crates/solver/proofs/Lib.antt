@@ -4,3 +4,5 @@ pub mod Steps
 pub mod Finish
 pub mod Once
 pub mod Displays
+pub mod Filling
+pub mod Holding

@@ -1,0 +1,9 @@
+// The intermediate symbols of a block, out of the packets that arrived.
+use crate::verdict::Verdict;
+use field::refusal::Refusal;
+
+// A verdict on the system of the call, or a refusal.
+pub enum Answer {
+    Given(Verdict),
+    Refused(Refusal),
+}
