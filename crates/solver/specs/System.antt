@@ -19,8 +19,8 @@ use Rattle.linear.specs.System.{System}
 use Rattle.linear.specs.Bytes.{cell}
 use Rattle.solver.specs.Display.{anyLarge}
 use Rattle.solver.specs.Verdict.{Means}
-use Rattle.solver.specs.declared.solver.Answer.{Answer}
-use Rattle.solver.specs.declared.solver.Answer.the-variants.{Given, Refused}
+use Rattle.solver.specs.declared.solver.Solution.{Solution}
+use Rattle.solver.specs.declared.solver.Solution.the-variants.{Given, Refused}
 
 -- S LDPC rows, H HDPC rows and K' - K padding rows
 abbrev pub fixed : Row → ℕ → ℕ
@@ -82,7 +82,7 @@ admitted r v k t es xs a d o = solvable r (length v) k t (length es) (anyLarge e
 
 -- The contract. Before, the stores a, d and o; after, a₁, d₁ and o₁. A call that is not refused answers for its system, and leaves 0 in the used
 -- parts of a and d.
-abbrev pub Solves : Row → List ℕ → ℕ → ℕ → (es xs a d o a₁ d₁ o₁ : List ℕ) → Answer → Type 0
+abbrev pub Solves : Row → List ℕ → ℕ → ℕ → (es xs a d o a₁ d₁ o₁ : List ℕ) → Solution → Type 0
 Solves r v k t es xs a d o a₁ d₁ o₁ (Given verdict) =
     (admitted r v k t es xs a d o ≡ given tt)
     × Means (lOf r) t (systemOf r v k t es xs) o o₁ verdict

@@ -3,7 +3,7 @@ use crate::verdict::Verdict;
 use field::refusal::Refusal;
 
 // A verdict on the system of the call, or a refusal.
-pub enum Answer {
+pub enum Solution {
     Given(Verdict),
     Refused(Refusal),
 }
