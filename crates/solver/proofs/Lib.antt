@@ -6,3 +6,4 @@ pub mod Once
 pub mod Displays
 pub mod Filling
 pub mod Holding
+pub mod Settled
