@@ -7,3 +7,4 @@ pub mod Displays
 pub mod Filling
 pub mod Holding
 pub mod Settled
+pub mod Admitted
