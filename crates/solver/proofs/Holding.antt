@@ -23,27 +23,27 @@ use Rattle.solver.specs.System.{Filled, fixed, equations, sentRow, rowOf
 
 module _ (r : Row) (v : List ℕ) (k t : ℕ) (es xs : List ℕ) where
   -- the rows of the system, part by part
-  row-ldpc : (i c : ℕ) → i < r .s → rowOf v r k es i c ≡ ldpcOf r i c
+  pub row-ldpc : (i c : ℕ) → i < r .s → rowOf v r k es i c ≡ ldpcOf r i c
   unfolding rowOf
   row-ldpc i c h = rw (lt-ltb i (r .s) h)
 
-  row-hdpc : (i c : ℕ) → r .s ≤ i → i < r .s + r .h → rowOf v r k es i c ≡ hdpcOf v r (i - r .s) c
+  pub row-hdpc : (i c : ℕ) → r .s ≤ i → i < r .s + r .h → rowOf v r k es i c ≡ hdpcOf v r (i - r .s) c
   unfolding rowOf
   row-hdpc i c l h = rw (le-ltb i (r .s) l, lt-ltb i (r .s + r .h) h)
 
-  row-padding : (i c : ℕ) → r .s + r .h ≤ i → i < fixed r k → rowOf v r k es i c ≡ encOf v r (k + (i - (r .s + r .h))) c
+  pub row-padding : (i c : ℕ) → r .s + r .h ≤ i → i < fixed r k → rowOf v r k es i c ≡ encOf v r (k + (i - (r .s + r .h))) c
   unfolding rowOf
   row-padding i c l h = rw (le-ltb i (r .s) (omega arith), le-ltb i (r .s + r .h) l, lt-ltb i (fixed r k) h)
 
-  row-arrival : (i c : ℕ) → fixed r k ≤ i → rowOf v r k es i c ≡ sentRow v r k (getD es (i - fixed r k) 0) c
+  pub row-arrival : (i c : ℕ) → fixed r k ≤ i → rowOf v r k es i c ≡ sentRow v r k (getD es (i - fixed r k) 0) c
   unfolding rowOf
   row-arrival i c l = rw (le-ltb i (r .s) (omega arith), le-ltb i (r .s + r .h) (omega arith), le-ltb i (fixed r k) l)
 
-  byte-fixed : (i b : ℕ) → i < fixed r k → byteOf r k t xs i b ≡ 0
+  pub byte-fixed : (i b : ℕ) → i < fixed r k → byteOf r k t xs i b ≡ 0
   unfolding byteOf
   byte-fixed i b h = rw (lt-ltb i (fixed r k) h)
 
-  byte-arrival : (i b : ℕ) → fixed r k ≤ i → byteOf r k t xs i b ≡ cell t xs (i - fixed r k) b
+  pub byte-arrival : (i b : ℕ) → fixed r k ≤ i → byteOf r k t xs i b ≡ cell t xs (i - fixed r k) b
   unfolding byteOf
   byte-arrival i b h = rw (le-ltb i (fixed r k) h)
 

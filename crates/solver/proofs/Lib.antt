@@ -8,3 +8,4 @@ pub mod Filling
 pub mod Holding
 pub mod Settled
 pub mod Admitted
+pub mod Calls
