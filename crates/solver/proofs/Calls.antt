@@ -10,9 +10,8 @@ use lib.ListN.{length, getD}
 use Rattle.headers.specs.Row.{lOf}
 use Rattle.headers.specs.declared.row.Row.{Row}
 use Rattle.linear.specs.System.{SameEquation, Included}
-use Rattle.linear.specs.Bytes.{Block, Bytes, cell, FitsBytes, SolvedBytes, ContradictionBytes, OpenBytes, ShortfallBytes}
-use Rattle.linear.proofs.AnswersBytes.{fitting-never-contradicts}
-use Rattle.linear.proofs.Growth.{included-arrivals, contradiction-remains, solved-never-opens, solved-same-bytes, solved-stays, shortfall-shrinks}
+use Rattle.linear.specs.Bytes.{Bytes, cell, SolvedBytes, ContradictionBytes, ShortfallBytes}
+use Rattle.linear.proofs.Growth.{included-arrivals, contradiction-remains, solved-stays, shortfall-shrinks}
 use Rattle.solver.specs.System.{fixed, sentRow, systemOf}
 use Rattle.solver.proofs.Holding.{row-ldpc, row-hdpc, row-padding, row-arrival, byte-fixed, byte-arrival, octet-symbols}
 use native.Mathlib.Decide.{decLt}

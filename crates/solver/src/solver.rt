@@ -96,9 +96,17 @@ pub fn solve(
         out.len(),
     );
     match fine {
-        Answer::Done => Solution::Given(
-            call::run(r, tables, k, t, esis, symbols, rows, values, out),
-        ),
+        Answer::Done => Solution::Given(call::run(
+            r,
+            tables,
+            k,
+            t,
+            esis,
+            symbols,
+            rows,
+            values,
+            out,
+        )),
         Answer::Refused(why) => Solution::Refused(why),
     }
 }

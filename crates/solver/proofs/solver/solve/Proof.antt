@@ -20,7 +20,7 @@ enum-told : tie.Need-enum-told
 enum-told c = search needs
 
 run-requires : tie.Need-run-requires
-run-requires c κs = 
+run-requires c κs =
     let a = c .before .before .before .before .before .before .before .before .before .before .before .before .before .args in
     let k = admits (a .r) (length (now (a .tables))) (a .k) (a .t) (length (now (a .esis))) (c .before .before .before .before .before .before .any-large .result) (length (now (a .symbols))) (length (now (a .rows))) (length (now (a .values))) (length (now (a .out)))
     (told (c .before .before .before .before .before .may .result) (c .before .before .before .before .before .may .ensures) (c .before .before .before .enum-told .given .1))
@@ -40,13 +40,13 @@ same-length-3 : tie.Need-same-length-3
 same-length-3 c = search needs
 
 returns : tie.Need-returns
-returns c = 
+returns c =
     let a = c .before .before .before .before .before .before .before .before .before .before .before .before .before .before .before .before .before .before .before .before .args in
     let u = c .before .before .before .before .before .before .run .ensures in
     (rw (c .before .before .before .before .before .before .before .before .before .before .before .before .before .any-large .ensures) at (told (c .before .before .before .before .before .before .before .before .before .before .before .before .may .result) (c .before .before .before .before .before .before .before .before .before .before .before .before .may .ensures) (c .before .before .before .before .before .before .before .before .before .before .enum-told .given .1)), u .0, u .1 .0, u .1 .1)
 
 returns-2 : tie.Need-returns-2
-returns-2 c = 
+returns-2 c =
     let a = c .before .before .before .before .before .before .before .before .before .before .before .args in
     (rw (c .before .before .before .before .any-large .ensures) at (sym (c .before .before .before .may .ensures) ∙ ap done (c .before .fine .given .1)), refl, refl, refl)
 

@@ -38,7 +38,7 @@ fill-requires : tie.Need-fill-requires
 fill-requires c κs = search needs
 
 mul-lay : tie.Need-mul-lay
-mul-lay c = 
+mul-lay c =
     let s = c .before .before .before .before .before .before .before .before .before .before .before .before .before .before .before in
     let a = s .args in
     omega (arith, mul-le-mul {n₁ = equations (a .r) (a .k) (length (a .esis .now))} {m₁ = a .t} {n₂ = 200000} {m₂ = 65535} (omega (arith, s .pre .0 .l-high, s .pre .3)) (omega arith))
@@ -59,13 +59,12 @@ same-length-3 : tie.Need-same-length-3
 same-length-3 c = search needs
 
 returns : tie.Need-returns
-returns c = 
+returns c =
     let s = c .before .before .before .before .before .before .before .before .before .before .before .before .before .before .before .before .before .before .before .before .before .before .before .before .before .before .before .before in
     let a = s .args in
     let e = c .before .before .before .before .before .before .solve-stored .ensures in
     let f = c .before .before .before .before .before .before .before .before .before .before .before .before .before .before .before .before .fill .ensures in
-    let w = c .before .before .before .before .before .before .before .before .before .before .before .before .lay .ensures in
-    (
+    let w = c .before .before .before .before .before .before .before .before .before .before .before .before .lay .ensures in (
       e .answer (systemOf (a .r) (a .tables .now) (a .k) (a .t) (a .esis .now) (a .symbols .now))
           (octet-symbols (a .r) (a .tables .now) (a .k) (a .t) (a .esis .now) (a .symbols .now) (λ x. omega (arith, c .before .before .before .before .before .before .before .before .before .before .before .before .before .before .before .before .before .before .before .before .before .before .before .before .before .shared-slice-known3 .given x)))
           (holds (a .r) (a .tables .now) (a .k) (a .t) (a .esis .now) (a .symbols .now) f w (s .pre .6)),
