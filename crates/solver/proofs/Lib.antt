@@ -4,3 +4,8 @@ pub mod Steps
 pub mod Finish
 pub mod Once
 pub mod Displays
+pub mod Filling
+pub mod Holding
+pub mod Settled
+pub mod Admitted
+pub mod Calls

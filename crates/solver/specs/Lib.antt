@@ -2,3 +2,4 @@
 pub mod Verdict
 pub mod Steps
 pub mod Display
+pub mod System

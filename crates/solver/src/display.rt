@@ -3,7 +3,8 @@ ghost use mathlib.Core.Path.{_≡_};
 ghost use Prim.Native.Nat.{_≤_};
 ghost use lib.ListN.{length};
 ghost use Rattle.field.specs.Answer.{done, given};
-ghost use Rattle.solver.specs.Display.{answerable, anyLarge, located, outcome, shown, standing, whereof};
+ghost use Rattle.solver.specs.Display.{answerable, located, outcome, shown, standing, whereof};
+use crate::beneath::esis;
 use field::refusal::Answer;
 use field::refusal::Refusal;
 
@@ -12,20 +13,6 @@ pub enum Shown {
     Arrived(usize),
     Rebuilt(usize),
     Refused(Refusal),
-}
-
-// Whether an id is too large to have been sent.
-fn any_large(esis: &[u32]) -> bool
-    ensures { λ r. ⌜ r ≡ anyLarge (now (esis .entry)) ⌝ }
-{
-    let mut i = 0;
-    while i < esis.len() {
-        if esis[i] >= 16777216 {
-            return true;
-        }
-        i += 1;
-    }
-    false
 }
 
 // How many arrivals stand before the first with that id; all of them, if it did not come.
@@ -89,7 +76,7 @@ fn place(t: u16, esis: &[u32], i: u32) -> Shown
 pub fn locate(k: u32, t: u16, esis: &[u32], came: usize, built: usize, i: u32) -> Shown
     ensures { λ r. ⌜ outcome r ≡ located k t (now (esis .entry)) came built i ⌝ }
 {
-    let fine = may(esis.len(), any_large(esis), came, built, k, t, i);
+    let fine = may(esis.len(), esis::any_large(esis), came, built, k, t, i);
     match fine {
         Answer::Done => place(t, esis, i),
         Answer::Refused(why) => Shown::Refused(why),

@@ -1,4 +1,4 @@
--- `solver::display::any_large` meets its contract: no id that was passed is too large.
+-- `solver::beneath::esis::any_large` meets its contract: no id that was passed is too large.
 -- Assumes nothing.
 use mathlib.Core.Bool.{false}
 use mathlib.Core.Path.{_≡_, sym}
@@ -10,8 +10,8 @@ use borrow.Author.Tests.{le-leb, lt-leb}
 use lib.Dec.{leb}
 use lib.ListN.{length, getD}
 use Rattle.solver.proofs.Displays.{large-at, large-none}
-use Rattle.solver.proofs.display.any_large.Statement.{statement}
-use Rattle.solver.proofs.display.any_large.Tie as tie
+use Rattle.solver.proofs.beneath.esis.any_large.Statement.{statement}
+use Rattle.solver.proofs.beneath.esis.any_large.Tie as tie
 
 abbrev Inv-loop : tie.InvT-loop
 Inv-loop esis i₀ i = (i ≤ length esis) × ((k : ℕ) → k < i → leb 16777216 (getD esis k 0) ≡ false)

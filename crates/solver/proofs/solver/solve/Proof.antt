@@ -1,0 +1,66 @@
+-- `solver::solver::solve` meets its contract: the refusals first, then the answer.
+-- Assumes nothing.
+use mathlib.Core.Path.{refl, sym, ap, _∙_}
+use lib.ListN.{length}
+use denote.Ref.{now}
+use Rattle.field.specs.Answer.{done}
+use Rattle.field.proofs.Refusals.{told}
+use Rattle.solver.proofs.Admitted.{admits, small}
+use borrow.Author.Needs.{needs}
+use Rattle.solver.proofs.solver.solve.Statement.{statement}
+use Rattle.solver.proofs.solver.solve.Tie as tie
+
+any-large-requires : tie.Need-any-large-requires
+any-large-requires c κs = search needs
+
+may-requires : tie.Need-may-requires
+may-requires c κs = search needs
+
+enum-told : tie.Need-enum-told
+enum-told c = search needs
+
+run-requires : tie.Need-run-requires
+run-requires c κs =
+    let a = c .before .before .before .before .before .before .before .before .before .before .before .before .before .args in
+    let k = admits (a .r) (length (now (a .tables))) (a .k) (a .t) (length (now (a .esis))) (c .before .before .before .before .before .before .any-large .result) (length (now (a .symbols))) (length (now (a .rows))) (length (now (a .values))) (length (now (a .out)))
+    (told (c .before .before .before .before .before .may .result) (c .before .before .before .before .before .may .ensures) (c .before .before .before .enum-told .given .1))
+    in
+    (k .rules, k .whole, k .k-high, k .few, small (now (a .esis)) (sym (c .before .before .before .before .before .before .any-large .ensures) ∙ k .sent), k .t-low, k .all, k .room-rows, k .room-values, k .room-out)
+
+enum-known-fine : tie.Need-enum-known-fine
+enum-known-fine c = search needs
+
+same-length : tie.Need-same-length
+same-length c = search needs
+
+same-length-2 : tie.Need-same-length-2
+same-length-2 c = search needs
+
+same-length-3 : tie.Need-same-length-3
+same-length-3 c = search needs
+
+returns : tie.Need-returns
+returns c =
+    let a = c .before .before .before .before .before .before .before .before .before .before .before .before .before .before .before .before .before .before .before .before .args in
+    let u = c .before .before .before .before .before .before .run .ensures in
+    (rw (c .before .before .before .before .before .before .before .before .before .before .before .before .before .any-large .ensures) at (told (c .before .before .before .before .before .before .before .before .before .before .before .before .may .result) (c .before .before .before .before .before .before .before .before .before .before .before .before .may .ensures) (c .before .before .before .before .before .before .before .before .before .before .enum-told .given .1)), u .0, u .1 .0, u .1 .1)
+
+returns-2 : tie.Need-returns-2
+returns-2 c =
+    let a = c .before .before .before .before .before .before .before .before .before .before .before .args in
+    (rw (c .before .before .before .before .any-large .ensures) at (sym (c .before .before .before .may .ensures) ∙ ap done (c .before .fine .given .1)), refl, refl, refl)
+
+pub solve-spec : {M : Type 1} → statement M
+solve-spec =
+    tie.close
+    (tie.spec
+    any-large-requires
+    may-requires
+    enum-told
+    run-requires
+    enum-known-fine
+    same-length
+    same-length-2
+    same-length-3
+    returns
+    returns-2)

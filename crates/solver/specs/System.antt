@@ -1,0 +1,92 @@
+-- Document 01, 'Solver and symbols': the system of a call, row by row from RFC 6330, when a call is refused, and what it leaves.
+-- Assumes nothing.
+use mathlib.Core.Path.{_≡_}
+use mathlib.Core.Bool.{Bool, not}
+use mathlib.Core.List.{List}
+use Prim.Native.Nat.{ℕ, _+_, _-_, _*_, _≤_, _<_}
+use lib.Dec.{eqb, ltb}
+use lib.ListN.{length, getD}
+use Rattle.field.specs.Answer.{Outcome, given, refused, unless, numberOf}
+use Rattle.field.specs.Choice.{pick}
+use Rattle.field.specs.Runs.{Written}
+use Rattle.headers.specs.Row.{obeys, lOf}
+use Rattle.headers.specs.Shift.{shifted}
+use Rattle.headers.specs.declared.row.Row.{Row}
+use Rattle.constraints.specs.Encoding.{encOf}
+use Rattle.constraints.specs.Hdpc.{hdpcOf}
+use Rattle.constraints.specs.Ldpc.{ldpcOf}
+use Rattle.linear.specs.System.{System}
+use Rattle.linear.specs.Bytes.{cell}
+use Rattle.solver.specs.Display.{anyLarge}
+use Rattle.solver.specs.Verdict.{Means}
+use Rattle.solver.specs.declared.solver.Solution.{Solution}
+use Rattle.solver.specs.declared.solver.Solution.the-variants.{Given, Refused}
+
+-- S LDPC rows, H HDPC rows and K' - K padding rows
+abbrev pub fixed : Row → ℕ → ℕ
+fixed r k = r .s + r .h + (r .k - k)
+
+-- M
+abbrev pub equations : Row → ℕ → ℕ → ℕ
+equations r k n = fixed r k + n
+
+-- the row of an encoding symbol id (RFC 6330, 5.3.5.3), by its ISI (5.3.1)
+abbrev pub sentRow : List ℕ → Row → ℕ → ℕ → ℕ → ℕ
+sentRow v r k e c = encOf v r (shifted e k (r .k)) c
+
+-- row i: LDPC and HDPC (RFC 6330, 5.3.3.3), the padding ISIs K .. K' - 1, the arrivals (5.3.3.4)
+unfoldable pub rowOf : List ℕ → Row → ℕ → List ℕ → ℕ → ℕ → ℕ
+rowOf v r k es i c =
+    pick (ltb i (r .s)) (ldpcOf r i c)
+    (pick (ltb i (r .s + r .h)) (hdpcOf v r (i - r .s) c)
+    (pick (ltb i (fixed r k)) (encOf v r (k + (i - (r .s + r .h))) c)
+    (sentRow v r k (getD es (i - fixed r k) 0) c)))
+
+-- its symbol: 0, and that of the arrival
+unfoldable pub byteOf : Row → ℕ → ℕ → List ℕ → ℕ → ℕ → ℕ
+byteOf r k t xs i b = pick (ltb i (fixed r k)) 0 (cell t xs (i - fixed r k) b)
+
+-- the system of a call: row r, tables v, K, T, the ESIs es and the symbols xs
+abbrev pub systemOf : Row → List ℕ → ℕ → ℕ → List ℕ → List ℕ → System ℕ
+systemOf r v k t es xs = record { count = equations r k (length es); coef = rowOf v r k es; byte = byteOf r k t xs }
+
+-- rows of w octets in a store, one after the other: ys is xs, but that the n rows from row `from` on are f 0, f 1, ..
+pub record Rows (w : ℕ) (f : ℕ → ℕ → ℕ) (xs ys : List ℕ) (from n : ℕ) : Type 0 where
+  pub size : length ys ≡ length xs
+  pub row : (i : ℕ) → i < n → (c : ℕ) → c < w → cell w ys (from + i) c ≡ f i c
+  pub low : (k : ℕ) → k < from * w → getD ys k 0 ≡ getD xs k 0
+  pub high : (k : ℕ) → (from + n) * w ≤ k → getD ys k 0 ≡ getD xs k 0
+
+-- a store that was filled with the coefficients: arrivals first and HDPC rows last, which is faster and not seen from outside
+pub record Filled (r : Row) (v : List ℕ) (k : ℕ) (es xs ys : List ℕ) : Type 0 where
+  pub size : length ys ≡ length xs
+  pub arrival : (i : ℕ) → i < length es → (c : ℕ) → c < lOf r → cell (lOf r) ys i c ≡ sentRow v r k (getD es i 0) c
+  pub padding : (i : ℕ) → i < r .k - k → (c : ℕ) → c < lOf r → cell (lOf r) ys (length es + i) c ≡ encOf v r (k + i) c
+  pub ldpc : (i : ℕ) → i < r .s → (c : ℕ) → c < lOf r → cell (lOf r) ys (length es + (r .k - k) + i) c ≡ ldpcOf r i c
+  pub hdpc : (i : ℕ) → i < r .h → (c : ℕ) → c < lOf r → cell (lOf r) ys (length es + (r .k - k) + r .s + i) c ≡ hdpcOf v r i c
+  pub high : (x : ℕ) → equations r k (length es) * lOf r ≤ x → getD ys x 0 ≡ getD xs x 0
+
+-- the refusals, on numbers: 4, 5, 9, 10, 8. Tables of `tables` numbers, n arrivals, `large` if an ESI is too large, symbols of `came` octets,
+-- and stores of a, d and o octets
+abbrev pub solvable : Row → ℕ → ℕ → ℕ → ℕ → Bool → ℕ → ℕ → ℕ → ℕ → Outcome (Unit {0})
+solvable r tables k t n large came a d o =
+    unless (not (obeys r)) 4 (unless (not (eqb tables 1024)) 5
+    (unless large 9 (unless (ltb k 1) 9 (unless (ltb (r .k) k) 9 (unless (ltb 65535 n) 9
+    (unless (eqb t 0) 10 (unless (not (eqb came (n * t))) 10
+    (unless (ltb a (equations r k n * lOf r)) 8 (unless (ltb d (equations r k n * t)) 8 (unless (ltb o (lOf r * t)) 8
+    (given tt)))))))))))
+
+-- the same, of a call
+abbrev pub admitted : Row → List ℕ → ℕ → ℕ → (es xs a d o : List ℕ) → Outcome (Unit {0})
+admitted r v k t es xs a d o = solvable r (length v) k t (length es) (anyLarge es) (length xs) (length a) (length d) (length o)
+
+-- The contract. Before, the stores a, d and o; after, a₁, d₁ and o₁. A call that is not refused answers for its system, and leaves 0 in the used
+-- parts of a and d.
+abbrev pub Solves : Row → List ℕ → ℕ → ℕ → (es xs a d o a₁ d₁ o₁ : List ℕ) → Solution → Type 0
+Solves r v k t es xs a d o a₁ d₁ o₁ (Given verdict) =
+    (admitted r v k t es xs a d o ≡ given tt)
+    × Means (lOf r) t (systemOf r v k t es xs) o o₁ verdict
+    × Written (λ _. 0) a a₁ 0 (equations r k (length es) * lOf r)
+    × Written (λ _. 0) d d₁ 0 (equations r k (length es) * t)
+Solves r v k t es xs a d o a₁ d₁ o₁ (Refused why) =
+    (admitted r v k t es xs a d o ≡ refused (numberOf why)) × (a₁ ≡ a) × (d₁ ≡ d) × (o₁ ≡ o)

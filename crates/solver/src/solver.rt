@@ -1,0 +1,112 @@
+// The intermediate symbols of a block, out of the packets that arrived.
+ghost use mathlib.Core.Path.{_≡_};
+ghost use Rattle.field.specs.Answer.{done};
+ghost use Rattle.solver.specs.System.{Solves, solvable};
+use crate::beneath::call;
+use crate::beneath::esis;
+use crate::verdict::Verdict;
+use field::refusal::Answer;
+use field::refusal::Refusal;
+use headers::beneath::row;
+use headers::row::Row;
+
+// A verdict on the system of the call, or a refusal.
+pub enum Solution {
+    Given(Verdict),
+    Refused(Refusal),
+}
+
+// The refusals, on numbers alone.
+fn may(
+    r: Row,
+    tables: usize,
+    k: u32,
+    t: u16,
+    n: usize,
+    large: bool,
+    came: usize,
+    rows: usize,
+    values: usize,
+    out: usize,
+) -> Answer
+    ensures { λ a. ⌜ done a ≡ solvable r tables k t n large came rows values out ⌝ }
+{
+    if !row::obeys(r) {
+        return Answer::Refused(Refusal::BadRow);
+    }
+    if tables != 1024 {
+        return Answer::Refused(Refusal::BadTables);
+    }
+    if large {
+        return Answer::Refused(Refusal::BadCount);
+    }
+    if k < 1 {
+        return Answer::Refused(Refusal::BadCount);
+    }
+    if k > r.k {
+        return Answer::Refused(Refusal::BadCount);
+    }
+    if n > 65535 {
+        return Answer::Refused(Refusal::BadCount);
+    }
+    if t == 0 {
+        return Answer::Refused(Refusal::BadSize);
+    }
+    if came != n * t as usize {
+        return Answer::Refused(Refusal::BadSize);
+    }
+    let m = (r.s + r.h + (r.k - k)) as usize + n;
+    let l = (r.k + r.s + r.h) as usize;
+    if rows < m * l {
+        return Answer::Refused(Refusal::WrongLength);
+    }
+    if values < m * t as usize {
+        return Answer::Refused(Refusal::WrongLength);
+    }
+    if out < l * t as usize {
+        return Answer::Refused(Refusal::WrongLength);
+    }
+    Answer::Done
+}
+
+// Solved, contradiction or open; the used parts of both scratch stores are 0 afterwards.
+pub fn solve(
+    r: Row,
+    tables: &[u32],
+    k: u32,
+    t: u16,
+    esis: &[u32],
+    symbols: &[u8],
+    rows: &mut [u8],
+    values: &mut [u8],
+    out: &mut [u8],
+) -> Solution
+    ensures { λ a. ⌜ Solves r (now (tables .entry)) k t (now (esis .entry)) (now (symbols .entry)) (now (rows .entry)) (now (values .entry)) (now (out .entry)) (now (rows .exit)) (now (values .exit)) (now (out .exit)) a ⌝ }
+{
+    let fine = may(
+        r,
+        tables.len(),
+        k,
+        t,
+        esis.len(),
+        esis::any_large(esis),
+        symbols.len(),
+        rows.len(),
+        values.len(),
+        out.len(),
+    );
+    match fine {
+        Answer::Done => Solution::Given(call::run(
+            r,
+            tables,
+            k,
+            t,
+            esis,
+            symbols,
+            rows,
+            values,
+            out,
+        )),
+        Answer::Refused(why) => Solution::Refused(why),
+    }
+}
