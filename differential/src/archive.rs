@@ -1,4 +1,5 @@
-//! Our archive, each call wrapped so that it takes slices. The layout is that of include/spoonripple.h.
+//! Our archive, each call wrapped so that it takes slices. The layout is that of include/spoonripple.h. What bench/ times is inlined, so
+//! that both sides make one call.
 
 /// A value, or the number of the refusal.
 pub type Answer<T> = Result<T, u32>;
@@ -48,6 +49,7 @@ unsafe extern "C" {
     fn spoonripple_run_fma(dst: *mut u8, dst_len: usize, src: *const u8, src_len: usize, c: u8) -> u32;
 }
 
+#[inline]
 fn done(code: u32) -> Answer<()> {
     if code == 0 { Ok(()) } else { Err(code) }
 }
@@ -70,14 +72,17 @@ octet_call!(octet_div, spoonripple_octet_div, a: u8, by: u8);
 octet_call!(octet_fma, spoonripple_octet_fma, a: u8, b: u8, c: u8);
 octet_call!(octet_alpha, spoonripple_octet_alpha, i: usize);
 
+#[inline]
 pub fn run_add(dst: &mut [u8], src: &[u8]) -> Answer<()> {
     done(unsafe { spoonripple_run_add(dst.as_mut_ptr(), dst.len(), src.as_ptr(), src.len()) })
 }
 
+#[inline]
 pub fn run_scale(dst: &mut [u8], c: u8) -> Answer<()> {
     done(unsafe { spoonripple_run_scale(dst.as_mut_ptr(), dst.len(), c) })
 }
 
+#[inline]
 pub fn run_fma(dst: &mut [u8], src: &[u8], c: u8) -> Answer<()> {
     done(unsafe { spoonripple_run_fma(dst.as_mut_ptr(), dst.len(), src.as_ptr(), src.len(), c) })
 }
@@ -149,6 +154,7 @@ pub fn slab_locate(len: usize, slab: Slab, order: &[u32], i: usize, out: &mut [u
     done(unsafe { spoonripple_slab_locate(len, slab.count, slab.size, order.as_ptr(), order.len(), i, out.as_mut_ptr(), out.len()) })
 }
 
+#[inline]
 pub fn slab_add_assign(store: &mut [u8], slab: Slab, order: &[u32], dest: usize, src: usize) -> Answer<()> {
     done(unsafe { spoonripple_slab_add_assign(store.as_mut_ptr(), store.len(), slab.count, slab.size, order.as_ptr(), order.len(), dest, src) })
 }
@@ -157,6 +163,7 @@ pub fn slab_mulassign_scalar(store: &mut [u8], slab: Slab, order: &[u32], dest: 
     done(unsafe { spoonripple_slab_mulassign_scalar(store.as_mut_ptr(), store.len(), slab.count, slab.size, order.as_ptr(), order.len(), dest, scalar) })
 }
 
+#[inline]
 pub fn slab_fma(store: &mut [u8], slab: Slab, order: &[u32], dest: usize, src: usize, scalar: u8) -> Answer<()> {
     done(unsafe { spoonripple_slab_fma(store.as_mut_ptr(), store.len(), slab.count, slab.size, order.as_ptr(), order.len(), dest, src, scalar) })
 }
@@ -204,6 +211,7 @@ pub fn matrix_swap_columns(words: &mut [u64], m: Shape, i: usize, j: usize, star
     done(unsafe { spoonripple_matrix_swap_columns(words.as_mut_ptr(), words.len(), m.height, m.width, i, j, start) })
 }
 
+#[inline]
 pub fn matrix_add_assign_rows(words: &mut [u64], m: Shape, dest: usize, src: usize) -> Answer<()> {
     done(unsafe { spoonripple_matrix_add_assign_rows(words.as_mut_ptr(), words.len(), m.height, m.width, dest, src) })
 }
