@@ -3,7 +3,7 @@ ghost use lib.ListN.{length};
 ghost use Rattle.field.specs.Answer.{given};
 ghost use Rattle.field.specs.Runs.{Written, added, fused, scaled};
 ghost use Rattle.exports.specs.Call.{Did, alike};
-use field::beneath::bytes;
+use field::beneath::runs;
 
 // dst + src
 #[no_mangle]
@@ -14,7 +14,7 @@ pub extern "C" fn spoonripple_run_add(dst: &mut [u8], src: &[u8]) -> u32
     if dst.len() != src.len() {
         return 8;
     }
-    bytes::add(dst, 0, src);
+    runs::add(dst, 0, src);
     0
 }
 
@@ -24,7 +24,7 @@ pub extern "C" fn spoonripple_run_scale(dst: &mut [u8], c: u8) -> u32
     ensures { λ r. ⌜ Did (given (tt {0})) (now (dst .entry)) (now (dst .exit))
         (Written (scaled c (now (dst .entry))) (now (dst .entry)) (now (dst .exit)) 0 (length (now (dst .entry)))) r ⌝ }
 {
-    bytes::scale(dst, c);
+    runs::scale(dst, c);
     0
 }
 
@@ -37,6 +37,6 @@ pub extern "C" fn spoonripple_run_fma(dst: &mut [u8], src: &[u8], c: u8) -> u32
     if dst.len() != src.len() {
         return 8;
     }
-    bytes::fma(dst, 0, src, c);
+    runs::fma(dst, 0, src, c);
     0
 }

@@ -6,7 +6,7 @@ ghost use Rattle.headers.specs.Tuples.{Bounds};
 ghost use Rattle.constraints.specs.Walk.{Walks, places};
 ghost use Rattle.encoding.specs.Encoded.{Addable, symbolAdded, symbolsAdded, walked};
 use constraints::beneath::walk;
-use field::beneath::bytes;
+use field::beneath::runs;
 use headers::tuple::Tuple;
 
 fn clear(out: &mut [u8], n: usize)
@@ -27,7 +27,7 @@ fn add_symbol(out: &mut [u8], t: usize, intermediates: &[u8], p: usize)
 {
     let start = p * t;
     let end = start + t;
-    bytes::add(out, 0, &intermediates[start..end]);
+    runs::add(out, 0, &intermediates[start..end]);
 }
 
 // out + C[p], for the first n places p of the list

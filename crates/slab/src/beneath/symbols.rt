@@ -16,14 +16,14 @@ pub fn add(slab: &mut [u8], t: usize, to: usize, from: usize)
     ensures { λ _. ⌜ Written (added (now (slab .entry)) to (part (now (slab .entry)) from t)) (now (slab .entry)) (now (slab .exit)) to t ⌝ }
 {
     let end = to + t;
+    let mut chunk = [0u8; 256];
     let mut at = 0;
     while at < t {
         let n = chunk_len(t - at);
         let first = from + at;
         let last = first + n;
-        let mut chunk = [0u8; 256];
         bytes::copy(&slab[first..last], &mut chunk);
-        field::beneath::bytes::add(&mut slab[to..end], at, &chunk[..n]);
+        field::beneath::runs::add(&mut slab[to..end], at, &chunk[..n]);
         at += n;
     }
 }
@@ -34,7 +34,7 @@ pub fn scale(slab: &mut [u8], t: usize, to: usize, c: u8)
     ensures { λ _. ⌜ Written (scaled c (part (now (slab .entry)) to t)) (now (slab .entry)) (now (slab .exit)) to t ⌝ }
 {
     let end = to + t;
-    field::beneath::bytes::scale(&mut slab[to..end], c);
+    field::beneath::runs::scale(&mut slab[to..end], c);
 }
 
 // The symbol at `to` becomes its sum with c times the symbol at `from`.
@@ -43,14 +43,14 @@ pub fn fma(slab: &mut [u8], t: usize, to: usize, from: usize, c: u8)
     ensures { λ _. ⌜ Written (fused (now (slab .entry)) to c (part (now (slab .entry)) from t)) (now (slab .entry)) (now (slab .exit)) to t ⌝ }
 {
     let end = to + t;
+    let mut chunk = [0u8; 256];
     let mut at = 0;
     while at < t {
         let n = chunk_len(t - at);
         let first = from + at;
         let last = first + n;
-        let mut chunk = [0u8; 256];
         bytes::copy(&slab[first..last], &mut chunk);
-        field::beneath::bytes::fma(&mut slab[to..end], at, &chunk[..n], c);
+        field::beneath::runs::fma(&mut slab[to..end], at, &chunk[..n], c);
         at += n;
     }
 }

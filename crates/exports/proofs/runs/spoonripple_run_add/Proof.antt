@@ -1,4 +1,4 @@
--- `exports::runs::spoonripple_run_add` meets its contract: two runs of one length are what `bytes::add` makes of them.
+-- `exports::runs::spoonripple_run_add` meets its contract: two runs of one length are what `runs::add` makes of them.
 -- Assumes nothing.
 use mathlib.Core.Path.{refl}
 use borrow.Author.Needs.{needs}

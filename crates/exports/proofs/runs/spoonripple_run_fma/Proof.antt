@@ -1,4 +1,4 @@
--- `exports::runs::spoonripple_run_fma` meets its contract: two runs of one length are what `bytes::fma` makes of them.
+-- `exports::runs::spoonripple_run_fma` meets its contract: two runs of one length are what `runs::fma` makes of them.
 -- Assumes nothing.
 use mathlib.Core.Path.{refl}
 use borrow.Author.Needs.{needs}

@@ -1,4 +1,4 @@
--- `field::beneath::bytes::scale` meets its contract: after i turns the first i places hold the product.
+-- `field::beneath::runs::scale` meets its contract: after i turns the first i places hold the product.
 -- Assumes nothing.
 use mathlib.Core.Path.{sym, ap, _∙_}
 use Prim.Native.Nat.{_-_, _≤_}
@@ -11,8 +11,8 @@ use Rattle.field.specs.Octet.{times}
 use Rattle.field.specs.Runs.{Written, scaled}
 use Rattle.field.proofs.Laws.{times-comm}
 use Rattle.field.proofs.Writing.{written-none, written-more, written-is}
-use Rattle.field.proofs.beneath.bytes.scale.Statement.{statement}
-use Rattle.field.proofs.beneath.bytes.scale.Tie as tie
+use Rattle.field.proofs.beneath.runs.scale.Statement.{statement}
+use Rattle.field.proofs.beneath.runs.scale.Tie as tie
 
 abbrev Inv-loop : tie.InvT-loop
 Inv-loop dst₀ c i₀ dst i = Written (scaled c dst₀) dst₀ dst 0 i × (i ≤ length dst₀)

@@ -1,21 +1,23 @@
--- `field::beneath::bytes::add` meets its contract: after i turns the first i places of the run hold the sum.
+-- `field::beneath::runs::fma` meets its contract: after i turns the first i places of the run hold the sum with the product.
 -- Assumes nothing.
-use mathlib.Core.Path.{refl, ap}
-use Prim.Native.Nat.{ℕ, _-_, _≤_}
+use mathlib.Core.Path.{refl, ap₂, _∙_}
+use Prim.Native.Nat.{_-_, _≤_}
 use native.Mathlib.Omega.{arith}
+use borrow.Author.Needs.{needs}
 use lib.ListN.{length, getD}
 use denote.Ref.{now}
 use Rattle.field.specs.Octet.{plus}
-use Rattle.field.specs.Runs.{Written, added}
+use Rattle.field.specs.Runs.{Written, fused}
+use Rattle.field.proofs.Laws.{times-comm}
 use Rattle.field.proofs.Writing.{written-none, written-next, written-more, written-is}
-use Rattle.field.proofs.beneath.bytes.add.Statement.{statement}
-use Rattle.field.proofs.beneath.bytes.add.Tie as tie
+use Rattle.field.proofs.beneath.runs.fma.Statement.{statement}
+use Rattle.field.proofs.beneath.runs.fma.Tie as tie
 
 abbrev Inv-loop : tie.InvT-loop
-Inv-loop dst₀ at src i₀ dst i = Written (added dst₀ at src) dst₀ dst at i × (i ≤ length src)
+Inv-loop dst₀ at src c i₀ dst i = Written (fused dst₀ at c src) dst₀ dst at i × (i ≤ length src)
 
 abbrev μ-loop : tie.MeasureT-loop
-μ-loop dst₀ at src i₀ dst i = length src - i
+μ-loop dst₀ at src c i₀ dst i = length src - i
 
 loop-holds : tie.Need-loop-holds Inv-loop μ-loop
 loop-holds c = (written-none _ _ _, omega arith)
@@ -26,8 +28,11 @@ add-dst c = omega arith
 slice-read-dst : tie.Need-slice-read-dst Inv-loop μ-loop
 slice-read-dst c = omega arith
 
-shared-slice-read-dst : tie.Need-shared-slice-read-dst Inv-loop μ-loop
-shared-slice-read-dst c = omega arith
+shared-slice-read-mul : tie.Need-shared-slice-read-mul Inv-loop μ-loop
+shared-slice-read-mul c = omega arith
+
+mul-requires : tie.Need-mul-requires Inv-loop μ-loop
+mul-requires c κs = search needs
 
 add-dst-2 : tie.Need-add-dst-2 Inv-loop μ-loop
 add-dst-2 c = omega arith
@@ -43,9 +48,12 @@ loop-less c = omega arith
 
 loop-again : tie.Need-loop-again Inv-loop μ-loop
 loop-again c =
-    let l = c .before .before .before .loop in
-    let start = c .before .before .before .before .args in
-    (written-more (l .inv .0) refl (omega arith) (ap (λ (x : ℕ). plus x (getD (now (start .src)) (l .i) 0)) (written-next (l .inv .0))), omega arith)
+    let l = c .before .before .before .before .loop in
+    let start = c .before .before .before .before .before .before .before .args in (
+      written-more (l .inv .0) refl (omega arith)
+          (ap₂ plus (written-next (l .inv .0)) (c .mul .ensures ∙ times-comm (getD (now (start .src)) (l .i) 0) (start .c))),
+      omega arith,
+    )
 
 same-length : tie.Need-same-length Inv-loop μ-loop
 same-length c = c .before .loop .inv .0 .size
@@ -53,8 +61,8 @@ same-length c = c .before .loop .inv .0 .size
 returns : tie.Need-returns Inv-loop μ-loop
 returns c = written-is (c .before .loop .inv .0) (omega arith)
 
-pub add-spec : {M : Type 1} → statement M
-add-spec =
+pub fma-spec : {M : Type 1} → statement M
+fma-spec =
     tie.close
     (tie.spec
     Inv-loop
@@ -62,7 +70,8 @@ add-spec =
     loop-holds
     add-dst
     slice-read-dst
-    shared-slice-read-dst
+    shared-slice-read-mul
+    mul-requires
     add-dst-2
     slice-write-dst
     add-i
