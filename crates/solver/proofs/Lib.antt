@@ -4,6 +4,7 @@ pub mod Steps
 pub mod Finish
 pub mod Once
 pub mod Displays
+pub mod Order
 pub mod Filling
 pub mod Holding
 pub mod Settled

@@ -2,4 +2,5 @@
 pub mod Verdict
 pub mod Steps
 pub mod Display
+pub mod Order
 pub mod System

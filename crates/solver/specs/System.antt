@@ -18,6 +18,7 @@ use Rattle.constraints.specs.Ldpc.{ldpcOf}
 use Rattle.linear.specs.System.{System}
 use Rattle.linear.specs.Bytes.{cell}
 use Rattle.solver.specs.Display.{anyLarge}
+use Rattle.solver.specs.Order.{sent, isiOf, placeOf}
 use Rattle.solver.specs.Verdict.{Means}
 use Rattle.solver.specs.declared.solver.Solution.{Solution}
 use Rattle.solver.specs.declared.solver.Solution.the-variants.{Given, Refused}
@@ -57,14 +58,22 @@ pub record Rows (w : ℕ) (f : ℕ → ℕ → ℕ) (xs ys : List ℕ) (from n :
   pub low : (k : ℕ) → k < from * w → getD ys k 0 ≡ getD xs k 0
   pub high : (k : ℕ) → (from + n) * w ≤ k → getD ys k 0 ≡ getD xs k 0
 
--- a store that was filled with the coefficients: arrivals first and HDPC rows last, which is faster and not seen from outside
+-- a store that was filled with the coefficients: arrivals and padding rows in an order of their own, then LDPC and HDPC rows. That is faster, and
+-- not seen from outside.
 pub record Filled (r : Row) (v : List ℕ) (k : ℕ) (es xs ys : List ℕ) : Type 0 where
   pub size : length ys ≡ length xs
-  pub arrival : (i : ℕ) → i < length es → (c : ℕ) → c < lOf r → cell (lOf r) ys i c ≡ sentRow v r k (getD es i 0) c
-  pub padding : (i : ℕ) → i < r .k - k → (c : ℕ) → c < lOf r → cell (lOf r) ys (length es + i) c ≡ encOf v r (k + i) c
-  pub ldpc : (i : ℕ) → i < r .s → (c : ℕ) → c < lOf r → cell (lOf r) ys (length es + (r .k - k) + i) c ≡ ldpcOf r i c
-  pub hdpc : (i : ℕ) → i < r .h → (c : ℕ) → c < lOf r → cell (lOf r) ys (length es + (r .k - k) + r .s + i) c ≡ hdpcOf v r i c
+  pub row : (i : ℕ) → i < sent r k es → (c : ℕ) → c < lOf r → cell (lOf r) ys (placeOf v r k es i) c ≡ encOf v r (isiOf r k es i) c
+  pub ldpc : (i : ℕ) → i < r .s → (c : ℕ) → c < lOf r → cell (lOf r) ys (sent r k es + i) c ≡ ldpcOf r i c
+  pub hdpc : (i : ℕ) → i < r .h → (c : ℕ) → c < lOf r → cell (lOf r) ys (sent r k es + r .s + i) c ≡ hdpcOf v r i c
   pub high : (x : ℕ) → equations r k (length es) * lOf r ≤ x → getD ys x 0 ≡ getD xs x 0
+
+-- a store that was filled with the symbols xs of the call in the same order: there is none past the last arrival, and a place past the end of xs
+-- reads 0
+pub record Laid (r : Row) (v : List ℕ) (k t : ℕ) (es xs d d₁ : List ℕ) : Type 0 where
+  pub size : length d₁ ≡ length d
+  pub symbol : (i : ℕ) → i < sent r k es → (b : ℕ) → b < t → cell t d₁ (placeOf v r k es i) b ≡ cell t xs i b
+  pub blank : (i : ℕ) → i < r .s + r .h → (b : ℕ) → b < t → cell t d₁ (sent r k es + i) b ≡ 0
+  pub high : (x : ℕ) → equations r k (length es) * t ≤ x → getD d₁ x 0 ≡ getD d x 0
 
 -- the refusals, on numbers: 4, 5, 9, 10, 8. Tables of `tables` numbers, n arrivals, `large` if an ESI is too large, symbols of `came` octets,
 -- and stores of a, d and o octets

@@ -30,7 +30,6 @@ pub fn run(
     let n = t as usize;
     let m = (r.s + r.h + (r.k - k)) as usize + esis.len();
     let l = (r.k + r.s + r.h) as usize;
-    filling::fill(rows, tables, esis, k, r);
-    filling::lay(symbols, values, m * n);
+    filling::fill(rows, values, tables, esis, symbols, k, n, r);
     finish::solve_stored(rows, values, out, m, l, n)
 }

@@ -1,10 +1,9 @@
 -- `solver::beneath::call::run` meets its contract: the filled stores hold the system of the call.
 -- Assumes nothing.
-use native.Mathlib.Nat.{mul-le-mul}
 use native.Mathlib.Omega.{arith}
-use lib.ListN.{length}
-use Rattle.linear.proofs.Rows.{only, only-then, only-written}
-use Rattle.solver.specs.System.{equations, systemOf}
+use Rattle.linear.proofs.Rows.{only, only-then}
+use Rattle.solver.specs.System.{systemOf}
+use Rattle.solver.proofs.Filling.{sendable}
 use Rattle.solver.proofs.Holding.{octet-symbols, holds}
 use borrow.Author.Needs.{needs}
 use Rattle.solver.proofs.beneath.call.run.Statement.{statement}
@@ -35,16 +34,7 @@ cast-l : tie.Need-cast-l
 cast-l c = search needs
 
 fill-requires : tie.Need-fill-requires
-fill-requires c κs = search needs
-
-mul-lay : tie.Need-mul-lay
-mul-lay c =
-    let s = c .before .before .before .before .before .before .before .before .before .before .before .before .before .before .before in
-    let a = s .args in
-    omega (arith, mul-le-mul {n₁ = equations (a .r) (a .k) (length (a .esis .now))} {m₁ = a .t} {n₂ = 200000} {m₂ = 65535} (omega (arith, s .pre .0 .l-high, s .pre .3)) (omega arith))
-
-lay-requires : tie.Need-lay-requires
-lay-requires c κs = search needs
+fill-requires c κs = let p = c .before .before .before .before .before .before .before .before .before .before .before .before .pre in (p .0, p .1, p .2, p .3, p .4, p .6, omega arith, p .7, p .8)
 
 solve-stored-requires : tie.Need-solve-stored-requires
 solve-stored-requires c κs = search needs
@@ -60,15 +50,14 @@ same-length-3 c = search needs
 
 returns : tie.Need-returns
 returns c =
-    let s = c .before .before .before .before .before .before .before .before .before .before .before .before .before .before .before .before .before .before .before .before .before .before .before .before .before .before .before .before in
+    let s = c .before .before .before .before .before .before .before .before .before .before .before .before .before .before .before .before .before .before .before .before .before .before .before .before .before .before .before in
     let a = s .args in
     let e = c .before .before .before .before .before .before .solve-stored .ensures in
-    let f = c .before .before .before .before .before .before .before .before .before .before .before .before .before .before .before .before .fill .ensures in
-    let w = c .before .before .before .before .before .before .before .before .before .before .before .before .lay .ensures in (
+    let f = c .before .before .before .before .before .before .before .before .before .before .before .before .before .before .fill .ensures in (
       e .answer (systemOf (a .r) (a .tables .now) (a .k) (a .t) (a .esis .now) (a .symbols .now))
-          (octet-symbols (a .r) (a .tables .now) (a .k) (a .t) (a .esis .now) (a .symbols .now) (λ x. omega (arith, c .before .before .before .before .before .before .before .before .before .before .before .before .before .before .before .before .before .before .before .before .before .before .before .before .before .shared-slice-known3 .given x)))
-          (holds (a .r) (a .tables .now) (a .k) (a .t) (a .esis .now) (a .symbols .now) f w (s .pre .6)),
-      (only-then (only (f .size) (f .high)) (e .rows), only-then (only-written (omega arith) w) (e .symbols)),
+          (octet-symbols (a .r) (a .tables .now) (a .k) (a .t) (a .esis .now) (a .symbols .now) (λ x. omega (arith, c .before .before .before .before .before .before .before .before .before .before .before .before .before .before .before .before .before .before .before .before .before .before .before .before .shared-slice-known3 .given x)))
+          (holds (a .r) (a .tables .now) (a .k) (a .t) (a .esis .now) (a .symbols .now) (sendable (s .pre .0) (s .pre .1) (s .pre .2) (s .pre .3) (s .pre .4)) (f .0) (f .1) (s .pre .6)),
+      (only-then (only (f .0 .size) (f .0 .high)) (e .rows), only-then (only (f .1 .size) (f .1 .high)) (e .symbols)),
     )
 
 pub run-spec : {M : Type 1} → statement M
@@ -84,8 +73,6 @@ run-spec =
     add-l-2
     cast-l
     fill-requires
-    mul-lay
-    lay-requires
     solve-stored-requires
     same-length
     same-length-2
