@@ -6,6 +6,7 @@ use mathlib.Core.List.{List, [], _++_}
 use Prim.Native.Nat.{ℕ, _+_, _-_, _*_, _≤_, _<_}
 use native.Mathlib.Decide.{decLt}
 use native.Mathlib.Omega.{arith}
+use borrow.Author.Tests.{lt-ltb}
 use lib.ListN.{length, getD, replicate, length-replicate, getD-replicate, length-append, List·getD-append, List·getD-eq-default}
 use Rattle.field.specs.Octet.{times}
 use Rattle.field.proofs.Laws.{times-zero}
@@ -22,7 +23,7 @@ use Rattle.solver.specs.System.{fixed, equations, sentRow, rowOf, systemOf}
 use Rattle.solver.specs.declared.solver.Solution.the-variants.{Given}
 use Rattle.solver.specs.declared.verdict.Verdict.{Verdict}
 use Rattle.solver.specs.declared.verdict.Verdict.the-variants.{Solved, Contradiction, Open}
-use Rattle.solver.proofs.Holding.{row-ldpc, row-hdpc, row-padding, row-arrival}
+use Rattle.solver.proofs.Holding.{row-arrival}
 use Rattle.promises.specs.Calls.{Call, Fitting, MostRows}
 use Rattle.promises.proofs.Exactly.{accepted, k-low, contradiction-none, solved-shortfall, solved-rows}
 
@@ -52,26 +53,24 @@ module _ {v : List ℕ} {r : Row} {k t : ℕ} {es xs o o₁ : List ℕ} where
 -- ---- n arrivals more
 
 module _ (v : List ℕ) (r : Row) (k t : ℕ) (es xs gs ys : List ℕ) where
-  -- the rows of the first arrivals stay what they are, whatever the symbols
-  same-row : (i c : ℕ) → i < fixed r k + length es → rowOf v r k (es ++ gs) i c ≡ rowOf v r k es i c
-  same-row i c h = go (decLt i (r .s)) (decLt i (r .s + r .h)) (decLt i (fixed r k))
-    where
-      go : Dec (i < r .s) → Dec (i < r .s + r .h) → Dec (i < fixed r k) → rowOf v r k (es ++ gs) i c ≡ rowOf v r k es i c
-      go (yes p) q z = row-ldpc r v k t (es ++ gs) ys i c p ∙ sym (row-ldpc r v k t es xs i c p)
-      go (no p) (yes q) z = row-hdpc r v k t (es ++ gs) ys i c (omega arith) q ∙ sym (row-hdpc r v k t es xs i c (omega arith) q)
-      go (no p) (no q) (yes z) = row-padding r v k t (es ++ gs) ys i c (omega arith) z ∙ sym (row-padding r v k t es xs i c (omega arith) z)
-      go (no p) (no q) (no z) =
-          row-arrival r v k t (es ++ gs) ys i c (omega arith)
-          ∙ ap (λ (e : ℕ). sentRow v r k e c) (List·getD-append es gs 0 (i - fixed r k) (omega arith))
-          ∙ sym (row-arrival r v k t es xs i c (omega arith))
+  -- the first rows stay what they are, whatever the symbols
+  fixed-row : (i c : ℕ) → i < fixed r k → rowOf v r k (es ++ gs) i c ≡ rowOf v r k es i c
+  unfolding rowOf
+  fixed-row i c h = rw (lt-ltb i (fixed r k) h)
+
+  arrival-row : (i c : ℕ) → fixed r k ≤ i → i < fixed r k + length es → rowOf v r k (es ++ gs) i c ≡ rowOf v r k es i c
+  arrival-row i c l h =
+      row-arrival r v k t (es ++ gs) ys i c l ∙ ap (λ (e : ℕ). sentRow v r k e c) (List·getD-append es gs 0 (i - fixed r k) (omega arith))
+      ∙ sym (row-arrival r v k t es xs i c l)
 
   lowered : {s u : ℕ} → ShortfallBytes (lOf r) t (systemOf r v k t es xs) s → ShortfallBytes (lOf r) t (systemOf r v k t (es ++ gs) ys) u → s ≤ length gs + u
-  lowered = shortfall-floor (length gs) (λ q. fixed r k + length es + q) (λ i h. go i h (decLt i (fixed r k + length es)))
+  lowered = shortfall-floor (length gs) (λ q. fixed r k + length es + q) (λ i h. go i h (decLt i (fixed r k)) (decLt i (fixed r k + length es)))
     where
-      go : (i : ℕ) → i < equations r k (length (es ++ gs)) → Dec (i < fixed r k + length es)
+      go : (i : ℕ) → i < equations r k (length (es ++ gs)) → Dec (i < fixed r k) → Dec (i < fixed r k + length es)
           → ((q : ℕ) × (q < equations r k (length es)) × ((c : ℕ) → c < lOf r → rowOf v r k (es ++ gs) i c ≡ rowOf v r k es q c)) ⊎ ((q : ℕ) × (q < length gs) × (i ≡ fixed r k + length es + q))
-      go i h (yes l) = inl (i, l, λ c _. same-row i c l)
-      go i h (no l) = inr (i - (fixed r k + length es), omega (arith, length-append es gs), omega arith)
+      go i h (yes q) l = inl (i, omega arith, λ c _. fixed-row i c q)
+      go i h (no q) (yes l) = inl (i, l, λ c _. arrival-row i c (omega arith) l)
+      go i h (no q) (no l) = inr (i - (fixed r k + length es), omega (arith, length-append es gs), omega arith)
 
 module _ {v : List ℕ} {r : Row} {k t : ℕ} {es xs o o₁ p p₁ : List ℕ} {s : ℕ} (gs ys : List ℕ) (c : Call r v k t es xs o o₁ (Given (Open s))) where
   -- n arrivals more, with whatever symbols, lower the shortfall by n at most

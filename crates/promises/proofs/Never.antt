@@ -6,9 +6,11 @@ use mathlib.Core.List.{List}
 use Prim.Native.Nat.{ℕ, _<_}
 use native.Mathlib.Nat.{zero-add}
 use lib.ListN.{length, getD}
+use Rattle.field.specs.declared.refusal.Answer.the-variants as Plains
 use Rattle.headers.specs.Row.{lOf}
 use Rattle.headers.specs.declared.row.Row.{Row}
 use Rattle.linear.specs.Bytes.{Block, FitsBytes, cell}
+use Rattle.encoding.specs.Encoded.{Encodes}
 use Rattle.solver.specs.System.{systemOf}
 use Rattle.solver.specs.declared.solver.Solution.the-variants.{Given}
 use Rattle.solver.specs.declared.verdict.Verdict.{Verdict}
@@ -17,15 +19,15 @@ use Rattle.promises.specs.Calls.{Call, Meets, Fitting, Encoding, sent, s
 use Rattle.promises.proofs.Fitting.{fits-fitting}
 use Rattle.promises.proofs.Exactly.{solved-single, contradiction-exactly}
 
--- what a call of `encode` left is what the sender of C sends
-pub encoding-sent : {v : List ℕ} {r : Row} {k t e : ℕ} {C : List ℕ} {f : ℕ → ℕ} → Encoding v r k t e C f → (b : ℕ) → b < t → sent v r k t C e b ≡ f b
-encoding-sent x b l = sym (x .front b l ∙ ap (λ (n : ℕ). getD (x .after) n 0) (sym (zero-add b)) ∙ x .contract .memory .part b l)
+-- what a call of `encode` leaves is what the sender of C sends
+pub encodes-sent : {v : List ℕ} {r : Row} {k t e : ℕ} {C ys zs : List ℕ} → Encodes v r k t e C ys zs Plains.Done → (b : ℕ) → b < t → getD zs b 0 ≡ sent v r k t C e b
+encodes-sent {zs = zs} n b l = ap (λ (x : ℕ). getD zs x 0) (sym (zero-add b)) ∙ n .memory .part b l
 
 -- a set that meets the constraints fits the arrivals that `encode` made from it
 pub sent-fitting : {v : List ℕ} {r : Row} {k t : ℕ} {es xs C : List ℕ} → Block (lOf r) t C → Meets v r k t C
     → ((i : ℕ) → i < length es → Encoding v r k t (getD es i 0) C (cell t xs i))
     → Fitting v r k t es xs C
-sent-fitting b m s = record { block = b; meets = m; yields = record { arrival = λ i h. encoding-sent (s i h) } }
+sent-fitting b m s = record { block = b; meets = m; yields = record { arrival = λ i h b l. sym (s i h .front b l ∙ encodes-sent (s i h .contract) b l) } }
 
 module _ {v : List ℕ} {r : Row} {k t : ℕ} {es xs o o₁ C : List ℕ} where
   -- never a contradiction where a set fits

@@ -1,9 +1,8 @@
 -- A solved set re-encodes every arrival, and for any other ESI gives what every set that fits gives.
 -- Assumes nothing.
-use mathlib.Core.Path.{_≡_, sym, ap, _∙_, subst}
+use mathlib.Core.Path.{_≡_, refl, sym, ap, _∙_, subst}
 use mathlib.Core.List.{List}
 use Prim.Native.Nat.{ℕ, _+_, _*_, _≤_, _<_}
-use native.Mathlib.Nat.{zero-add}
 use native.Mathlib.Omega.{arith}
 use borrow.Author.Tests.{le-ltb, le-leb, lt-leb, eq-eqb, ne-eqb}
 use lib.ListN.{length, getD}
@@ -19,6 +18,7 @@ use Rattle.headers.specs.Shift.{shifted}
 use Rattle.headers.specs.declared.row.Row.{Row}
 use Rattle.headers.proofs.Accepted.{obeyed}
 use Rattle.constraints.specs.Encoding.{encOf}
+use Rattle.linear.specs.Bytes.{cell, Block}
 use Rattle.linear.proofs.Bytes.{cell-lt}
 use Rattle.encoding.specs.Encoded.{Encodes, allowed}
 use Rattle.encoding.proofs.Allowed.{never-long}
@@ -26,8 +26,9 @@ use Rattle.solver.specs.declared.solver.Solution.the-variants.{Given}
 use Rattle.solver.specs.declared.verdict.Verdict.{Verdict}
 use Rattle.solver.specs.declared.verdict.Verdict.the-variants.{Solved}
 use Rattle.solver.proofs.Admitted.{small}
-use Rattle.promises.specs.Calls.{Call, Came, Fitting, sent, setIn}
+use Rattle.promises.specs.Calls.{Call, Came, Meets, Fitting, Encoding, sent, setIn}
 use Rattle.promises.proofs.Exactly.{accepted, k-low, solved-single}
+use Rattle.promises.proofs.Never.{encodes-sent, sent-fitting}
 
 -- only the first L·T octets of the intermediates are read
 sent-set : (v : List ℕ) (r : Row) (k t : ℕ) (C D : List ℕ) (e b : ℕ) → setIn r t C ≡ D → b < t → sent v r k t C e b ≡ sent v r k t D e b
@@ -35,10 +36,6 @@ sent-set v r k t C D e b q l = sum-same (lOf r) (λ c h. ap (times (encOf v r (s
   where
     at : (x : ℕ) → x < lOf r * t → getD C x 0 ≡ getD D x 0
     at x h = sym (getD-take (lOf r * t) C x 0 h) ∙ ap (λ (z : List ℕ). getD z x 0) q
-
--- what a call of `encode` leaves
-encodes-sent : {v : List ℕ} {r : Row} {k t e : ℕ} {C ys zs : List ℕ} → Encodes v r k t e C ys zs Plains.Done → (b : ℕ) → b < t → getD zs b 0 ≡ sent v r k t C e b
-encodes-sent {zs = zs} n b l = ap (λ (x : ℕ). getD zs x 0) (sym (zero-add b)) ∙ n .memory .part b l
 
 -- Solved, and `encode` is called with intermediates C that begin with the solved set, as the out store itself does.
 module _ {v : List ℕ} {r : Row} {k t : ℕ} {es xs o o₁ C : List ℕ} (c : Call r v k t es xs o o₁ (Given Solved)) (same : setIn r t C ≡ setIn r t o₁) where
@@ -56,6 +53,13 @@ module _ {v : List ℕ} {r : Row} {k t : ℕ} {es xs o o₁ C : List ℕ} (c : C
   pub rebuilds-sent : {e : ℕ} {D ys zs ys′ zs′ : List ℕ} → Fitting v r k t es xs D → Encodes v r k t e C ys zs Plains.Done → Encodes v r k t e D ys′ zs′ Plains.Done
       → (b : ℕ) → b < t → getD zs b 0 ≡ getD zs′ b 0
   rebuilds-sent f n m b l = rebuilds f n b l ∙ sym (encodes-sent m b l)
+
+-- Nothing is invented: if `encode` made every arrival from one set D that meets the constraints, then out of a solved store it makes, for each
+-- ESI and so for every source symbol, the symbol that it makes from D.
+pub recovers : {v : List ℕ} {r : Row} {k t e : ℕ} {es xs o o₁ D ys zs ys′ zs′ : List ℕ} → Block (lOf r) t D → Meets v r k t D
+    → ((i : ℕ) → i < length es → Encoding v r k t (getD es i 0) D (cell t xs i)) → Call r v k t es xs o o₁ (Given Solved)
+    → Encodes v r k t e o₁ ys zs Plains.Done → Encodes v r k t e D ys′ zs′ Plains.Done → (b : ℕ) → b < t → getD zs b 0 ≡ getD zs′ b 0
+recovers block meets made c n m = rebuilds-sent c refl (sent-fitting block meets made) n m
 
 -- ---- and such a call is not refused
 
