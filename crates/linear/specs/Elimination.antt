@@ -2,7 +2,6 @@
 -- rows stand in a, of width L, and their symbols in d, of width T. Nothing is said of the way in which a step was done.
 -- Assumes nothing.
 use mathlib.Core.Path.{_≡_}
-use mathlib.Core.Logic.{_≢_}
 use mathlib.Core.List.{List}
 use Prim.Native.Nat.{ℕ, _+_, _*_, _≤_, _<_}
 use Rattle.linear.specs.Span.{SameSpan}

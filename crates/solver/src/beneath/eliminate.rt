@@ -1,6 +1,5 @@
 // All equations, one after the other, and then back. The order in which they stand decides the speed, and not the answer.
-ghost use Prim.Native.Nat.{_+_, _≤_};
-ghost use lib.ListN.{length};
+ghost use Prim.Native.Nat.{_+_};
 ghost use Rattle.linear.specs.Elimination.{Stepped, Keeps};
 ghost use Rattle.solver.specs.Steps.{Room, Pivots, Taken, Stands, column};
 use crate::beneath::reduce;
