@@ -18,12 +18,12 @@ use Rattle.linear.specs.Reduced.{Reduced}
 use Rattle.linear.specs.Octets.{octets, Octet, oct}
 use Rattle.linear.specs.Bytes.{Bytes, cell, Block, stored, OctetSymbols, inOctets, symbols, SolvedBytes, ContradictionBytes, OpenBytes, ShortfallBytes}
 use Rattle.linear.specs.Rows.{RowCopied, OnlyBelow}
-use Rattle.linear.specs.Elimination.{Holds, Held, Sifted, Columns, Gathered}
+use Rattle.linear.specs.Elimination.{Holds, Stepped, Sifted, Held, Columns, Gathered}
 use Rattle.linear.proofs.Field.{zero-mul}
 use Rattle.linear.proofs.Total.{total-vanish, delta-self, delta-other}
 use Rattle.linear.proofs.Kernel.{pigeon}
 use Rattle.linear.proofs.System.{fits-follows}
-use Rattle.linear.proofs.Reduced.{rank-le, shortfall, solved-by, two-fit}
+use Rattle.linear.proofs.Reduced.{shortfall, solved-by, two-fit}
 use Rattle.linear.proofs.Octets.{oct-zero, oct-one, oct-once}
 use Rattle.linear.proofs.Bytes.{cell-lt, contradiction-bytes, solved-bytes, open-bytes}
 use Rattle.linear.proofs.AnswersBytes.{solved-bytes-once}
@@ -52,38 +52,62 @@ clash-at {T = T} {d = d} m x h bd hm lo hi z nz =
     let e : m * T + (x - m * T) ≡ x = omega arith in
     clash m (x - m * T) h bd hm (omega arith) z (λ q. nz (ap (λ (y : ℕ). getD d y 0) (sym e) ∙ q))
 
--- ---- (f): all M rows are taken
+-- ---- the pivots are different columns, and so not more than there are
+
+pub stepped-columns : {L T m r : ℕ} {pivot : ℕ → ℕ} {a d : List ℕ} → Stepped L T m r pivot a d → Columns L r pivot
+stepped-columns {L} {r = r} {pivot = pivot} {a = a} s = record { below = s .column; once = λ i k hi hk e. go i k hi hk e (decLt i k) (decLt k i) }
+  where
+    -- row k is 1 at its own, and 0 at those before it
+    apart : (i k : ℕ) → i < k → k < r → pivot i ≡ pivot k → ⊥
+    apart i k h l e = let z : _≡_ {A = ℕ} 1 0 = sym (s .one k l) ∙ ap (cell L a k) (sym e) ∙ s .off k l i (omega arith) h in omega arith
+
+    go : (i k : ℕ) → i < r → k < r → pivot i ≡ pivot k → Dec (i < k) → Dec (k < i) → i ≡ k
+    go i k hi hk e (yes h) d = absurd (apart i k h hk e)
+    go i k hi hk e (no h) (yes l) = absurd (apart k i l hi (sym e))
+    go i k hi hk e (no h) (no l) = omega arith
+
+pub rank-at-most : {L T m r : ℕ} {pivot : ℕ → ℕ} {a d : List ℕ} → Stepped L T m r pivot a d → r ≤ L
+rank-at-most {L} {r = r} {pivot = pivot} s = let c = stepped-columns s in pigeon octets r L pivot (c .below) (c .once)
+
+-- a row that is 0 at every pivot and not 0 in column q leaves room for one more pivot
+pub room : {L T m r : ℕ} {pivot : ℕ → ℕ} {a d : List ℕ} (q : ℕ) → Sifted L T m r r pivot a d → q < L → cell L a m q ≢ 0 → r < L
+room {L} {T} {m} {r} {pivot} {a} q s hq nz = let h : suc r ≤ L = pigeon octets (suc r) L (cons q pivot) below once in omega arith
+  where
+    below : (k : ℕ) → k < suc r → cons q pivot k < L
+    below zero h = hq
+    below (suc k) h = s .stepped .column k (omega arith)
+
+    once : (i k : ℕ) → i < suc r → k < suc r → cons q pivot i ≡ cons q pivot k → i ≡ k
+    once zero zero hi hk e = refl
+    once zero (suc k) hi hk e = absurd (nz (ap (cell L a m) e ∙ s .gone k (omega arith) (omega arith)))
+    once (suc i) zero hi hk e = absurd (nz (ap (cell L a m) (sym e) ∙ s .gone i (omega arith) (omega arith)))
+    once (suc i) (suc k) hi hk e = ap suc (stepped-columns (s .stepped) .once i k (omega arith) (omega arith) e)
+
+-- ---- (f): all M rows are taken, and fully reduced
 
 module _ {M L T r : ℕ} {pivot : ℕ → ℕ} {a d : List ℕ} (held : Held L T M r pivot a d) where
-  -- no two have one pivot
-  pub pivot-once : (i k : ℕ) → i < r → k < r → pivot i ≡ pivot k → i ≡ k
-  pivot-once i k hi hk e = go (ℕ-discrete i k)
-    where
-      go : Dec (i ≡ k) → i ≡ k
-      go (yes q) = q
-      go (no n) = absurd (let z : _≡_ {A = ℕ} 1 0 = sym (held .one i hi) ∙ ap (cell L a i) e ∙ held .off i k hi hk n in omega arith)
-
   abbrev end : System Octet
   end = inOctets (stored M L T a d)
 
   reduced : Reduced octets L M (symbols L a) r
   reduced = record {
-    enough = held .enough;
+    enough = held .stepped .enough;
     pivot = pivot;
-    pivot-below = held .column;
+    pivot-below = held .stepped .column;
     unit = λ i k h l. go i k h l (ℕ-discrete i k);
-    rest = λ i h l c b. ap oct (held .row-gone i h l c b) ∙ oct-zero;
+    rest = λ i h l c b. ap oct (held .stepped .row-gone i h l c b) ∙ oct-zero;
   }
     where
       go : (i k : ℕ) → i < r → k < r → Dec (i ≡ k) → oct (cell L a i (pivot k)) ≡ delta octets i k
-      go i k h l (yes e) = ap (λ (z : ℕ). oct (cell L a z (pivot k))) e ∙ ap oct (held .one k l) ∙ oct-one ∙ sym (ap (λ (z : ℕ). delta octets z k) e ∙ delta-self octets k)
-      go i k h l (no n) = ap oct (held .off i k h l n) ∙ oct-zero ∙ sym (delta-other octets i k n)
+      go i k h l (yes e) = ap (λ (z : ℕ). oct (cell L a z (pivot k))) e ∙ ap oct (held .stepped .one k l) ∙ oct-one ∙ sym (ap (λ (z : ℕ). delta octets z k) e ∙ delta-self octets k)
+      go i k h l (no n) = ap oct (off (decLt k i)) ∙ oct-zero ∙ sym (delta-other octets i k n)
+        where
+          off : Dec (k < i) → cell L a i (pivot k) ≡ 0
+          off (yes b) = held .stepped .off i h k (omega arith) b
+          off (no b) = held .later i k (omega arith) l
 
   clean : (i : ℕ) → r ≤ i → i < M → (t : ℕ) → t < T → oct (cell T d i t) ≡ 𝟘
-  clean i h l t b = ap oct (held .symbol-gone i h l t b) ∙ oct-zero
-
-  pub rank-at-most : r ≤ L
-  rank-at-most = rank-le octets L T end r reduced
+  clean i h l t b = ap oct (held .stepped .symbol-gone i h l t b) ∙ oct-zero
 
   module _ {S : System ℕ} (holds : Holds M L T S a d) where
     pub answer-shortfall : ShortfallBytes L T S (L - r)
@@ -98,7 +122,7 @@ module _ {M L T r : ℕ} {pivot : ℕ → ℕ} {a d : List ℕ} (held : Held L T
     unfolding reduced
     answer-solved out small bo long e g = solved-bytes L T S small (take (L * T) out) block
         (solved-by octets L T (inOctets S) end r reduced (holds .to) (holds .back) clean e (symbols T (take (L * T) out))
-        (λ k h t q. ap oct (getD-take (L * T) out (pivot k * T + t) 0 (cell-lt T L (pivot k) t (held .column k h) q) ∙ g .at k h t q)))
+        (λ k h t q. ap oct (getD-take (L * T) out (pivot k * T + t) 0 (cell-lt T L (pivot k) t (held .stepped .column k h) q) ∙ g .at k h t q)))
       where
         go : (i : ℕ) → Dec (i < L * T) → getD (take (L * T) out) i 0 < 256
         go i (yes h) = rw (getD-take (L * T) out i 0 h) (bo i)
@@ -108,9 +132,6 @@ module _ {M L T r : ℕ} {pivot : ℕ → ℕ} {a d : List ℕ} (held : Held L T
         block = record { size = length-take-le (L * T) out long; bytes = λ i. go i (decLt i (L * T)) }
 
 -- ---- the symbols go to their columns, one after the other
-
-pub held-columns : {L T m r : ℕ} {pivot : ℕ → ℕ} {a d : List ℕ} → Held L T m r pivot a d → Columns L r pivot
-held-columns h = record { below = h .column; once = pivot-once h }
 
 pub gather-none : (T : ℕ) (pivot : ℕ → ℕ) (d out : List ℕ) → Gathered T 0 pivot d out
 gather-none T pivot d out = record { at = λ k h. absurd (omega arith) }
@@ -127,22 +148,6 @@ gather-more {L} {T} {r} {n} {pivot} {d} {out} {out₁} columns h g s = record { 
 pub gather-only : {L T r n : ℕ} {pivot f : ℕ → ℕ} {out out₁ : List ℕ} → Columns L r pivot → n < r → Written f out out₁ (pivot n * T) T
     → OnlyBelow (L * T) out out₁
 gather-only {L} {n = n} {pivot = pivot} columns h s = only-row (pivot n) L (columns .below n h) s
-
--- ---- room
-
--- a row that is 0 at every pivot and not 0 in column q leaves room for one more pivot
-pub room : {L T m r : ℕ} {pivot : ℕ → ℕ} {a d : List ℕ} (q : ℕ) → Sifted L T m r r pivot a d → q < L → cell L a m q ≢ 0 → r < L
-room {L} {T} {m} {r} {pivot} {a} q s hq nz = let h : suc r ≤ L = pigeon octets (suc r) L (cons q pivot) below once in omega arith
-  where
-    below : (k : ℕ) → k < suc r → cons q pivot k < L
-    below zero h = hq
-    below (suc k) h = s .held .column k (omega arith)
-
-    once : (i k : ℕ) → i < suc r → k < suc r → cons q pivot i ≡ cons q pivot k → i ≡ k
-    once zero zero hi hk e = refl
-    once zero (suc k) hi hk e = absurd (nz (ap (cell L a m) e ∙ s .gone k (omega arith)))
-    once (suc i) zero hi hk e = absurd (nz (ap (cell L a m) (sym e) ∙ s .gone i (omega arith)))
-    once (suc i) (suc k) hi hk e = ap suc (pivot-once (s .held) i k (omega arith) (omega arith) e)
 
 -- solved settles the whole out store: the set in front, and what was there past it
 pub out-once : {L T : ℕ} {S : System ℕ} {out o₁ o₂ : List ℕ} → SolvedBytes L T S (take (L * T) o₁) → SolvedBytes L T S (take (L * T) o₂)

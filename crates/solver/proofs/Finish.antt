@@ -10,7 +10,7 @@ use Rattle.linear.specs.System.{System}
 use Rattle.linear.specs.Bytes.{Bytes, OctetSymbols, ShortfallBytes}
 use Rattle.linear.specs.Elimination.{Holds, Keeps}
 use Rattle.linear.proofs.Keeping.{holds-kept}
-use Rattle.linear.proofs.Finish.{clash-at, rank-at-most, answer-shortfall, answer-open, answer-solved, held-columns}
+use Rattle.linear.proofs.Finish.{clash-at, rank-at-most, answer-shortfall, answer-open, answer-solved, stepped-columns}
 use Rattle.solver.specs.declared.beneath.eliminate.Progress.{Progress}
 use Rattle.solver.specs.declared.beneath.eliminate.Progress.the-variants as Progresses
 use Rattle.solver.specs.declared.verdict.Verdict.{Verdict}
@@ -21,9 +21,9 @@ use Rattle.solver.specs.Verdict.{Means}
 -- the symbols of the held rows can be read
 pub due : (M L T : ℕ) (ps a d : List ℕ) (p : Progress) → Room M L T a d → Pivots L ps → Stands M L T ps a d p → Due L T ps d p
 due M L T ps a d (Progresses.Held r) room places held = record {
-  columns = held-columns held;
-  pivots = omega (arith, rank-at-most held, places .enough);
-  symbols = omega (arith, mul-le-mul-right T (held .enough), room .symbols);
+  columns = stepped-columns (held .stepped);
+  pivots = omega (arith, rank-at-most (held .stepped), places .enough);
+  symbols = omega (arith, mul-le-mul-right T (held .stepped .enough), room .symbols);
 }
 due M L T ps a d Progresses.Clash room places held = tt
 
@@ -34,7 +34,7 @@ module _ (M L T : ℕ) {S : System ℕ} {a₀ d₀ a d : List ℕ} (ps o o₁ : 
 
   pub right : (p : Progress) (v : Verdict) → Stands M L T ps a d p → Ended L T ps d o o₁ p v → Means L T S o o₁ v
   right (Progresses.Held r) Solved held (full, gathered, past) =
-      (answer-solved held holds o₁ small bo (omega (arith, past .size)) (let h = rank-at-most held in omega arith) gathered, past)
+      (answer-solved held holds o₁ small bo (omega (arith, past .size)) (let h = rank-at-most (held .stepped) in omega arith) gathered, past)
   right (Progresses.Held r) Contradiction held e = absurd e
   right (Progresses.Held r) (Open s) held (short, is, same) =
       (answer-open held holds small pos short, subst (ShortfallBytes L T S) (sym is) (answer-shortfall held holds), same)

@@ -7,7 +7,7 @@ use Prim.Native.Nat.{ℕ, _+_, _-_, _*_, _≤_, _<_}
 use lib.ListN.{length, getD}
 use Rattle.linear.specs.Bytes.{cell}
 use Rattle.linear.specs.Rows.{RowCopied, RowCleared, OnlyBelow}
-use Rattle.linear.specs.Elimination.{Held, Columns, Gathered}
+use Rattle.linear.specs.Elimination.{Stepped, Held, Columns, Gathered}
 use Rattle.solver.specs.declared.beneath.eliminate.Progress.{Progress}
 use Rattle.solver.specs.declared.beneath.eliminate.Progress.the-variants as Progresses
 use Rattle.solver.specs.declared.verdict.Verdict.{Verdict}
@@ -50,7 +50,12 @@ pub record Clashes (n L T : ℕ) (a d : List ℕ) : Type 0 where
   pub last : place < row * T + T
   pub other : getD d place 0 ≢ 0
 
--- how the stores stand after n equations
+-- how the stores stand when n equations were taken
+abbrev pub Taken : (n L T : ℕ) (ps a d : List ℕ) → Progress → Type 0
+Taken n L T ps a d (Progresses.Held r) = Stepped L T n r (column ps) a d
+Taken n L T ps a d Progresses.Clash = Clashes n L T a d
+
+-- and after the elimination of all n
 abbrev pub Stands : (n L T : ℕ) (ps a d : List ℕ) → Progress → Type 0
 Stands n L T ps a d (Progresses.Held r) = Held L T n r (column ps) a d
 Stands n L T ps a d Progresses.Clash = Clashes n L T a d

@@ -5,5 +5,6 @@ pub mod eliminate;
 pub mod esis;
 pub mod filling;
 pub mod finish;
+pub mod reduce;
 pub mod rows;
 pub mod steps;

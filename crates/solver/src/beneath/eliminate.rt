@@ -1,8 +1,8 @@
-// All equations, one after the other. The order in which they stand decides the speed, and not the answer.
-ghost use Prim.Native.Nat.{_+_, _≤_};
-ghost use lib.ListN.{length};
-ghost use Rattle.linear.specs.Elimination.{Held, Keeps};
-ghost use Rattle.solver.specs.Steps.{Room, Pivots, Stands, column};
+// All equations, one after the other, and then back. The order in which they stand decides the speed, and not the answer.
+ghost use Prim.Native.Nat.{_+_};
+ghost use Rattle.linear.specs.Elimination.{Stepped, Keeps};
+ghost use Rattle.solver.specs.Steps.{Room, Pivots, Taken, Stands, column};
+use crate::beneath::reduce;
 use crate::beneath::rows;
 use crate::beneath::steps;
 
@@ -23,8 +23,8 @@ fn take_row(
     r: usize,
 ) -> Progress
     requires { ⌜ Room (i + 1) l t (now rows) (now values) × Pivots l (now pivots) ⌝ }
-    requires { ⌜ Held l t i r (column (now pivots)) (now rows) (now values) ⌝ }
-    ensures { λ p. ⌜ Stands (i + 1) l t (now (pivots .exit)) (now (rows .exit)) (now (values .exit)) p ⌝ }
+    requires { ⌜ Stepped l t i r (column (now pivots)) (now rows) (now values) ⌝ }
+    ensures { λ p. ⌜ Taken (i + 1) l t (now (pivots .exit)) (now (rows .exit)) (now (values .exit)) p ⌝ }
     ensures { λ _. ⌜ Keeps (i + 1) l t (now (rows .entry)) (now (values .entry)) (now (rows .exit)) (now (values .exit)) ⌝ }
 {
     steps::sift(rows, values, pivots, l, t, i, r);
@@ -46,7 +46,7 @@ fn take_row(
 }
 
 // Takes all m equations.
-pub fn eliminate(
+fn forward(
     rows: &mut [u8],
     values: &mut [u8],
     pivots: &mut [u16],
@@ -55,7 +55,7 @@ pub fn eliminate(
     t: usize,
 ) -> Progress
     requires { ⌜ Room m l t (now rows) (now values) × Pivots l (now pivots) ⌝ }
-    ensures { λ p. ⌜ Stands m l t (now (pivots .exit)) (now (rows .exit)) (now (values .exit)) p ⌝ }
+    ensures { λ p. ⌜ Taken m l t (now (pivots .exit)) (now (rows .exit)) (now (values .exit)) p ⌝ }
     ensures { λ _. ⌜ Keeps m l t (now (rows .entry)) (now (values .entry)) (now (rows .exit)) (now (values .exit)) ⌝ }
 {
     let mut r = 0;
@@ -68,5 +68,26 @@ pub fn eliminate(
         r = next;
         i += 1;
     }
+    Progress::Held(r)
+}
+
+// Takes all m equations, and reduces those that are held.
+pub fn eliminate(
+    rows: &mut [u8],
+    values: &mut [u8],
+    pivots: &mut [u16],
+    m: usize,
+    l: usize,
+    t: usize,
+) -> Progress
+    requires { ⌜ Room m l t (now rows) (now values) × Pivots l (now pivots) ⌝ }
+    ensures { λ p. ⌜ Stands m l t (now (pivots .exit)) (now (rows .exit)) (now (values .exit)) p ⌝ }
+    ensures { λ _. ⌜ Keeps m l t (now (rows .entry)) (now (values .entry)) (now (rows .exit)) (now (values .exit)) ⌝ }
+{
+    let p = forward(rows, values, pivots, m, l, t);
+    let Progress::Held(r) = p else {
+        return p;
+    };
+    reduce::reduce(rows, values, pivots, m, l, t, r);
     Progress::Held(r)
 }

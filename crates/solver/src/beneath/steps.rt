@@ -1,10 +1,10 @@
-// The steps by which equation i is taken, with r of those before it held: each held row is 1 at its pivot and 0 at the pivots of the others.
+// The steps by which equation i is taken, with r of those before it held: each held row is 1 at its pivot and 0 at the pivots of those before it.
 ghost use mathlib.Core.Path.{_≡_};
 ghost use mathlib.Core.Logic.{_≢_};
 ghost use Prim.Native.Nat.{_+_, _≤_, _<_};
 ghost use lib.ListN.{length};
 ghost use Rattle.linear.specs.Bytes.{cell};
-ghost use Rattle.linear.specs.Elimination.{Held, Sifted, Joining, Keeps};
+ghost use Rattle.linear.specs.Elimination.{Stepped, Sifted, Keeps};
 ghost use Rattle.solver.specs.Steps.{Room, column};
 use crate::beneath::rows;
 
@@ -19,7 +19,7 @@ pub fn sift(
     r: usize,
 )
     requires { ⌜ Room (i + 1) l t (now rows) (now values) × (r ≤ length (now pivots)) ⌝ }
-    requires { ⌜ Held l t i r (column (now pivots)) (now rows) (now values) ⌝ }
+    requires { ⌜ Stepped l t i r (column (now pivots)) (now rows) (now values) ⌝ }
     ensures { λ _. ⌜ Sifted l t i r r (column (now (pivots .entry))) (now (rows .exit)) (now (values .exit)) ⌝ }
     ensures { λ _. ⌜ Keeps (i + 1) l t (now (rows .entry)) (now (values .entry)) (now (rows .exit)) (now (values .exit)) ⌝ }
 {
@@ -43,7 +43,7 @@ fn settle(
 )
     requires { ⌜ Room (i + 1) l t (now rows) (now values) × (r < length (now pivots)) × (c < l) × (l ≤ 65535) ⌝ }
     requires { ⌜ Sifted l t i r r (column (now pivots)) (now rows) (now values) × (cell l (now rows) i c ≡ 1) ⌝ }
-    ensures { λ _. ⌜ Joining l t i r 0 (column (now (pivots .exit))) (now (rows .exit)) (now (values .exit)) ⌝ }
+    ensures { λ _. ⌜ Stepped l t (i + 1) (r + 1) (column (now (pivots .exit))) (now (rows .exit)) (now (values .exit)) ⌝ }
     ensures { λ _. ⌜ Keeps (i + 1) l t (now (rows .entry)) (now (values .entry)) (now (rows .exit)) (now (values .exit)) ⌝ }
 {
     pivots[r] = c as u16;
@@ -52,21 +52,6 @@ fn settle(
     }
     rows::move_row(rows, l, r, i);
     rows::move_row(values, t, r, i);
-}
-
-// Row r goes off the rows that were held before it.
-fn join(rows: &mut [u8], values: &mut [u8], pivots: &[u16], l: usize, t: usize, i: usize, r: usize)
-    requires { ⌜ Room (i + 1) l t (now rows) (now values) × (r < length (now pivots)) ⌝ }
-    requires { ⌜ Joining l t i r 0 (column (now pivots)) (now rows) (now values) ⌝ }
-    ensures { λ _. ⌜ Held l t (i + 1) (r + 1) (column (now (pivots .entry))) (now (rows .exit)) (now (values .exit)) ⌝ }
-    ensures { λ _. ⌜ Keeps (i + 1) l t (now (rows .entry)) (now (values .entry)) (now (rows .exit)) (now (values .exit)) ⌝ }
-{
-    let c = pivots[r] as usize;
-    let mut k = 0;
-    while k < r {
-        rows::take_off(rows, values, l, t, k, r, c);
-        k += 1;
-    }
 }
 
 // Row i, which is not 0 in column c, is held with that pivot.
@@ -82,10 +67,9 @@ pub fn hold(
 )
     requires { ⌜ Room (i + 1) l t (now rows) (now values) × (r < length (now pivots)) × (c < l) × (l ≤ 65535) ⌝ }
     requires { ⌜ Sifted l t i r r (column (now pivots)) (now rows) (now values) × (cell l (now rows) i c ≢ 0) ⌝ }
-    ensures { λ _. ⌜ Held l t (i + 1) (r + 1) (column (now (pivots .exit))) (now (rows .exit)) (now (values .exit)) ⌝ }
+    ensures { λ _. ⌜ Stepped l t (i + 1) (r + 1) (column (now (pivots .exit))) (now (rows .exit)) (now (values .exit)) ⌝ }
     ensures { λ _. ⌜ Keeps (i + 1) l t (now (rows .entry)) (now (values .entry)) (now (rows .exit)) (now (values .exit)) ⌝ }
 {
     rows::make_one(rows, values, l, t, i, c);
     settle(rows, values, pivots, l, t, i, r, c);
-    join(rows, values, pivots, l, t, i, r);
 }

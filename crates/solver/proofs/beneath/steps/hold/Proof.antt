@@ -1,4 +1,4 @@
--- `solver::beneath::steps::hold` meets its contract: row i is made 1 there, gets its place, and goes off the others.
+-- `solver::beneath::steps::hold` meets its contract: row i is made 1 there, and gets its place.
 -- Assumes nothing.
 use mathlib.Core.Path.{refl, _∙_}
 use Prim.Native.Nat.{_+_}
@@ -23,28 +23,21 @@ settle-requires c κs =
       (scale-row (s .pre .1 .0) (s .pre .0 .2) (s .pre .1 .1) refl (e .0) (e .1), scale-one (s .pre .1 .0) (s .pre .0 .2) (s .pre .1 .1) refl (e .0) (e .1)),
     )
 
-join-requires : tie.Need-join-requires
-join-requires c κs =
-    let s = c .before .before .before .before .before .before .before .before .before .before .before .before .before .before .before .before .before .before .before .before .before .before .before in
-    let e = c .before .before .before .before .before .before .before .before .before .before .before .before .before .before .before .before .before .make-one .ensures in
-    let u = c .before .before .before .before .before .before .before .before .before .settle .ensures in
-    ((room-kept (s .pre .0 .0) (u .1 .rows .size ∙ e .0 .size) (u .1 .symbols .size ∙ e .1 .size), omega (arith, s .pre .0 .1, c .before .before .before .before .before .before .before .before .before .settle .kept)), u .0)
-
 same-length : tie.Need-same-length
-same-length c = c .before .before .before .before .join .ensures .1 .rows .size ∙ c .before .before .before .before .before .before .before .before .before .before .before .before .before .before .settle .ensures .1 .rows .size ∙ c .before .before .before .before .before .before .before .before .before .before .before .before .before .before .before .before .before .before .before .before .before .before .make-one .ensures .0 .size
+same-length c = c .before .before .before .before .before .before .settle .ensures .1 .rows .size ∙ c .before .before .before .before .before .before .before .before .before .before .before .before .before .before .make-one .ensures .0 .size
 
 same-length-2 : tie.Need-same-length-2
-same-length-2 c = c .before .before .before .before .join .ensures .1 .symbols .size ∙ c .before .before .before .before .before .before .before .before .before .before .before .before .before .before .settle .ensures .1 .symbols .size ∙ c .before .before .before .before .before .before .before .before .before .before .before .before .before .before .before .before .before .before .before .before .before .before .make-one .ensures .1 .size
+same-length-2 c = c .before .before .before .before .before .before .settle .ensures .1 .symbols .size ∙ c .before .before .before .before .before .before .before .before .before .before .before .before .before .before .make-one .ensures .1 .size
 
 same-length-3 : tie.Need-same-length-3
-same-length-3 c = c .before .before .before .before .before .before .before .before .before .before .before .before .before .before .settle .kept .1 .1 .0
+same-length-3 c = c .before .before .before .before .before .before .settle .kept .1 .1 .0
 
 returns : tie.Need-returns
 returns c =
-    let s = c .before .before .before .before .before .before .before .before .before .before .before .before .before .before .before .before .before .before .before .before .before .before .before .before .before .before .before .before in
-    let e = c .before .before .before .before .before .before .before .before .before .before .before .before .before .before .before .before .before .before .before .before .before .before .make-one .ensures in
-    let j = c .before .before .before .before .join .ensures in
-    (j .0, keeps-trans (scale-keeps (s .pre .1 .0) (s .pre .0 .2) (s .pre .1 .1) refl (e .0) (e .1)) (keeps-trans (c .before .before .before .before .before .before .before .before .before .before .before .before .before .before .settle .ensures .1) (j .1)))
+    let s = c .before .before .before .before .before .before .before .before .before .before .before .before .before .before .before .before .before .before .before .before in
+    let e = c .before .before .before .before .before .before .before .before .before .before .before .before .before .before .make-one .ensures in
+    let u = c .before .before .before .before .before .before .settle .ensures in
+    (u .0, keeps-trans (scale-keeps (s .pre .1 .0) (s .pre .0 .2) (s .pre .1 .1) refl (e .0) (e .1)) (u .1))
 
 pub hold-spec : {M : Type 1} → statement M
 hold-spec =
@@ -52,7 +45,6 @@ hold-spec =
     (tie.spec
     make-one-requires
     settle-requires
-    join-requires
     same-length
     same-length-2
     same-length-3

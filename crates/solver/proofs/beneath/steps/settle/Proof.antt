@@ -29,19 +29,19 @@ returns c =
 move-row-requires : tie.Need-move-row-requires
 move-row-requires c κs =
     let s = c .before .before .before .before .before in
-    let below : s .args .r < s .args .i = (let q = s .pre .1 .0 .held .enough in let n = c .before .if1 .left in omega arith) in (
+    let below : s .args .r < s .args .i = (let q = s .pre .1 .0 .stepped .enough in let n = c .before .if1 .left in omega arith) in (
       rows-apart (s .args .i + 1) (s .args .l) (s .args .r) (s .args .i) (omega arith) (omega arith) (λ e. omega arith) (s .pre .0 .0 .rows),
       (λ e. omega arith),
-      s .pre .1 .0 .held .row-gone (s .args .r) (omega arith) below,
+      s .pre .1 .0 .stepped .row-gone (s .args .r) (omega arith) below,
     )
 
 move-row-requires-2 : tie.Need-move-row-requires-2
 move-row-requires-2 c κs =
     let s = c .before .before .before .before .before .before .before .before .before in
-    let below : s .args .r < s .args .i = (let q = s .pre .1 .0 .held .enough in let n = c .before .before .before .before .before .if1 .left in omega arith) in (
+    let below : s .args .r < s .args .i = (let q = s .pre .1 .0 .stepped .enough in let n = c .before .before .before .before .before .if1 .left in omega arith) in (
       rows-apart (s .args .i + 1) (s .args .t) (s .args .r) (s .args .i) (omega arith) (omega arith) (λ e. omega arith) (s .pre .0 .0 .symbols),
       (λ e. omega arith),
-      s .pre .1 .0 .held .symbol-gone (s .args .r) (omega arith) below,
+      s .pre .1 .0 .stepped .symbol-gone (s .args .r) (omega arith) below,
     )
 
 same-length-2 : tie.Need-same-length-2
@@ -56,7 +56,7 @@ same-length-4 c = search needs
 returns-2 : tie.Need-returns-2
 returns-2 c =
     let s = c .before .before .before .before .before .before .before .before .before .before .before .before in
-    let below : s .args .r < s .args .i = (let q = s .pre .1 .0 .held .enough in let n = c .before .before .before .before .before .before .before .before .if1 .left in omega arith) in
+    let below : s .args .r < s .args .i = (let q = s .pre .1 .0 .stepped .enough in let n = c .before .before .before .before .before .before .before .before .if1 .left in omega arith) in
     let a = c .before .before .before .before .before .before .move-row .ensures in
     let d = c .before .before .move-row2 .ensures in (
       settle-moved (s .pre .1 .0) (next-pivot (s .args .c) (s .args .pivots .now) (s .pre .0 .1)) (s .pre .0 .2) (s .pre .1 .1) below (a .copied) (d .copied) (a .cleared) (d .cleared),

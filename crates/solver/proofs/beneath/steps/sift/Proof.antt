@@ -5,8 +5,8 @@ use Prim.Native.Nat.{_+_, _-_, _≤_}
 use native.Mathlib.Omega.{arith}
 use borrow.Author.Needs.{needs}
 use Rattle.linear.specs.Elimination.{Sifted, Keeps}
-use Rattle.linear.proofs.Elimination.{sift-begin, sift-row, sift-keeps}
-use Rattle.linear.proofs.Keeping.{keeps-refl, keeps-trans}
+use Rattle.linear.proofs.Elimination.{sift-begin, sift-row}
+use Rattle.linear.proofs.Keeping.{keeps-refl, keeps-trans, keeps-added}
 use Rattle.solver.specs.Steps.{column}
 use Rattle.solver.proofs.Rows.{rows-apart}
 use Rattle.solver.proofs.beneath.steps.sift.Statement.{statement}
@@ -36,11 +36,11 @@ take-off-requires c κs =
     let s = c .before .before .before .before .before .before .before .before in
     let k = c .before .before .before .before .loop .k in
     let v = c .before .before .before .before .loop .inv in
-    let q = v .1 .held .enough in
+    let q = v .1 .stepped .enough in
     let h = c .before .before .before .loop-test .taken in (
       rows-apart (s .args .i + 1) (s .args .l) (s .args .i) k (omega arith) (omega arith) (λ e. omega arith) (omega (arith, s .pre .0 .0 .rows, v .2 .rows .size)),
       rows-apart (s .args .i + 1) (s .args .t) (s .args .i) k (omega arith) (omega arith) (λ e. omega arith) (omega (arith, s .pre .0 .0 .symbols, v .2 .symbols .size)),
-      v .1 .held .column k h,
+      v .1 .stepped .column k h,
     )
 
 add-k : tie.Need-add-k Inv-loop μ-loop
@@ -51,10 +51,13 @@ loop-less c = omega (arith, c .before .before .before .before .before .before .b
 
 loop-again : tie.Need-loop-again Inv-loop μ-loop
 loop-again c =
+    let s = c .before .before .before .before .before .before .before .before .before .before .before .before .before .args in
+    let k = c .before .before .before .before .before .before .before .before .before .loop .k in
     let v = c .before .before .before .before .before .before .before .before .before .loop .inv in
+    let q = v .1 .stepped .enough in
     let h = c .before .before .before .before .before .before .before .before .loop-test .taken in
     let e = c .before .before .before .before .take-off .ensures in
-    (omega arith, sift-row (v .1) h refl (e .0) (e .1), keeps-trans (v .2) (sift-keeps (v .1) h refl (e .0) (e .1)))
+    (omega arith, sift-row (v .1) h refl (e .0) (e .1), keeps-trans (v .2) (keeps-added (s .i) k _ (omega arith) (omega arith) (λ z. omega arith) (e .0) (e .1)))
 
 same-length : tie.Need-same-length Inv-loop μ-loop
 same-length c = c .before .loop .inv .2 .rows .size

@@ -1,0 +1,152 @@
+-- Demand 3's three conditions for a call that is not refused, each in both directions, and the shortfall.
+-- Assumes nothing.
+use mathlib.Core.Path.{_≡_, refl, sym, _∙_, subst}
+use mathlib.Core.Logic.{_≢_, _↔_}
+use mathlib.Core.Bool.{not}
+use mathlib.Core.List.{List}
+use Prim.Native.Nat.{ℕ, _+_, _*_, _≤_, _<_}
+use native.Mathlib.Omega.{arith}
+use borrow.Author.Tests.{ltb-false}
+use lib.Dec.{eqb, ltb}
+use lib.ListN.{length, getD}
+use Rattle.field.proofs.Laws.{times-lt}
+use Rattle.field.proofs.Refusals.{passed}
+use Rattle.field.proofs.Sums.{sum-lt}
+use Rattle.headers.specs.Row.{obeys, lOf}
+use Rattle.headers.specs.declared.row.Row.{Row}
+use Rattle.linear.specs.System.{System}
+use Rattle.linear.specs.Octets.{octets}
+use Rattle.linear.specs.Bytes.{OctetSymbols, cell, FitsBytes, SolvedBytes, OpenBytes, ShortfallBytes}
+use Rattle.linear.proofs.AnswersBytes.{solved-bytes-lacks-nothing, open-bytes-lacks}
+use Rattle.linear.proofs.Independent.{most-unique}
+use Rattle.linear.proofs.Rows.{only-past}
+use Rattle.solver.specs.Display.{anyLarge}
+use Rattle.solver.specs.System.{systemOf}
+use Rattle.solver.specs.declared.solver.Solution.the-variants.{Given}
+use Rattle.solver.specs.declared.verdict.Verdict.{Verdict}
+use Rattle.solver.specs.declared.verdict.Verdict.the-variants.{Solved, Contradiction, Open}
+use Rattle.solver.proofs.Admitted.{Admits, admits}
+use Rattle.promises.specs.Calls.{Call, Fitting, Single, Several, MostRows, setIn}
+use Rattle.promises.proofs.Fitting.{fitting-fits, fits-fitting}
+
+-- ---- the three verdicts differ
+
+pub contradiction-not-solved : Contradiction ≡ Solved → ⊥
+contradiction-not-solved e = let z : _≡_ {A = ℕ} 0 1 = cc in omega arith
+
+pub open-not-solved : {s : ℕ} → Open s ≡ Solved → ⊥
+open-not-solved e = let z : _≡_ {A = ℕ} 0 1 = cc in omega arith
+
+pub open-not-contradiction : {s : ℕ} → Open s ≡ Contradiction → ⊥
+open-not-contradiction e = let z : _≡_ {A = ℕ} 0 1 = cc in omega arith
+
+single-not-several : {v : List ℕ} {r : Row} {k t : ℕ} {es xs C : List ℕ} → Single v r k t es xs C → Several v r k t es xs → ⊥
+single-not-several a b = b .differ (a .only (b .first) (b .first-fits) ∙ sym (a .only (b .second) (b .second-fits)))
+
+-- the symbols of a system that a set fits are of octets
+pub fits-octets : {L T : ℕ} {S : System ℕ} {C : List ℕ} → FitsBytes L T S C → OctetSymbols T S
+fits-octets {L} {T} {S} {C} f = record { below = λ i h b l. subst (λ (x : ℕ). x < 256) (f .meets i h b l) (sum-lt L (λ c _. times-lt (S .coef i c) (cell T C c b))) }
+
+module _ {v : List ℕ} {r : Row} {k t : ℕ} {es xs o o₁ : List ℕ} where
+  -- what is known of a call that was not refused
+  pub accepted : (w : Verdict) (c : Call r v k t es xs o o₁ (Given w))
+      → Admits r (length v) k t (length es) (anyLarge es) (length xs) (length (c .rows)) (length (c .values)) (length o)
+  accepted w c = admits r (length v) k t (length es) (anyLarge es) (length xs) (length (c .rows)) (length (c .values)) (length o) (c .contract .0)
+
+  -- K is 1 at least
+  pub k-low : (w : Verdict) → Call r v k t es xs o o₁ (Given w) → 1 ≤ k
+  k-low w c =
+      let p1 = passed (not (obeys r)) 4 _ tt (c .contract .0) in
+      let p2 = passed (not (eqb (length v) 1024)) 5 _ tt (p1 .1) in
+      let p3 = passed (anyLarge es) 9 _ tt (p2 .1) in
+      ltb-false k 1 (passed (ltb k 1) 9 _ tt (p3 .1) .0)
+
+  -- ---- what each verdict says
+
+  -- solved: the set in the out store is the only one that fits
+  pub solved-single : Call r v k t es xs o o₁ (Given Solved) → Single v r k t es xs (setIn r t o₁)
+  solved-single c =
+      let s : SolvedBytes (lOf r) t (systemOf r v k t es xs) (setIn r t o₁) = c .contract .1 .0 in
+      record {
+        fits = fits-fitting v r k t es xs (setIn r t o₁) (s .block) (s .fits);
+        only = λ D f. s .only D (f .block) (fitting-fits v r k t es xs D f);
+      }
+
+  -- contradiction: no set fits
+  pub contradiction-none : Call r v k t es xs o o₁ (Given Contradiction) → (C : List ℕ) → ¬ Fitting v r k t es xs C
+  contradiction-none c C f = c .contract .1 .0 .none C (f .block) (fitting-fits v r k t es xs C f)
+
+  -- open: sets fit that differ
+  pub open-several : {s : ℕ} → Call r v k t es xs o o₁ (Given (Open s)) → Several v r k t es xs
+  open-several c =
+      let p : OpenBytes (lOf r) t (systemOf r v k t es xs) = c .contract .1 .0 in
+      record {
+        first = p .first;
+        second = p .second;
+        first-fits = fits-fitting v r k t es xs (p .first) (p .first-block) (p .first-fits);
+        second-fits = fits-fitting v r k t es xs (p .second) (p .second-block) (p .second-fits);
+        differ = p .differ;
+      }
+
+  -- ---- exactly when
+
+  -- solved exactly when a single set fits
+  pub solved-exactly : (w : Verdict) → Call r v k t es xs o o₁ (Given w) → (w ≡ Solved) ↔ ((C : List ℕ) × Single v r k t es xs C)
+  solved-exactly Solved c = (λ _. (setIn r t o₁, solved-single c), λ _. refl)
+  solved-exactly Contradiction c = (λ e. absurd (contradiction-not-solved e), λ h. absurd (contradiction-none c (h .0) (h .1 .fits)))
+  solved-exactly (Open s) c = (λ e. absurd (open-not-solved e), λ h. absurd (single-not-several (h .1) (open-several c)))
+
+  -- contradiction exactly when none fits
+  pub contradiction-exactly : (w : Verdict) → Call r v k t es xs o o₁ (Given w) → (w ≡ Contradiction) ↔ ((C : List ℕ) → ¬ Fitting v r k t es xs C)
+  contradiction-exactly Solved c = (λ e. absurd (contradiction-not-solved (sym e)), λ h. absurd (h (setIn r t o₁) (solved-single c .fits)))
+  contradiction-exactly Contradiction c = (λ _. contradiction-none c, λ _. refl)
+  contradiction-exactly (Open s) c = (λ e. absurd (open-not-contradiction e), λ h. absurd (let p = open-several c in h (p .first) (p .first-fits)))
+
+  -- open exactly when sets fit that differ
+  pub open-exactly : (w : Verdict) → Call r v k t es xs o o₁ (Given w) → ((s : ℕ) × (w ≡ Open s)) ↔ Several v r k t es xs
+  open-exactly Solved c = (λ h. absurd (open-not-solved (sym (h .1))), λ h. absurd (single-not-several (solved-single c) h))
+  open-exactly Contradiction c = (λ h. absurd (open-not-contradiction (sym (h .1))), λ h. absurd (contradiction-none c (h .first) (h .first-fits)))
+  open-exactly (Open s) c = (λ _. open-several c, λ _. (s, refl))
+
+  -- and open otherwise
+  pub open-otherwise : (w : Verdict) → Call r v k t es xs o o₁ (Given w) → ((C : List ℕ) → ¬ Single v r k t es xs C) → ¬ ((C : List ℕ) → ¬ Fitting v r k t es xs C)
+      → (s : ℕ) × (w ≡ Open s)
+  open-otherwise Solved c n m = absurd (n (setIn r t o₁) (solved-single c))
+  open-otherwise Contradiction c n m = absurd (m (contradiction-none c))
+  open-otherwise (Open s) c n m = (s, refl)
+
+  -- solved leaves the out store past the set
+  pub solved-past : Call r v k t es xs o o₁ (Given Solved) → (x : ℕ) → lOf r * t ≤ x → getD o₁ x 0 ≡ getD o x 0
+  solved-past c = only-past (c .contract .1 .1)
+
+  -- and where it is not solved, the whole of it
+  pub unsolved-out : (w : Verdict) → Call r v k t es xs o o₁ (Given w) → w ≢ Solved → o₁ ≡ o
+  unsolved-out Solved c n = absurd (n refl)
+  unsolved-out Contradiction c n = c .contract .1 .1
+  unsolved-out (Open s) c n = c .contract .1 .2
+
+  -- ---- the shortfall
+
+  -- L less the most rows that are independent: s and n make L exactly when n is the most
+  pub shortfall-exactly : {s : ℕ} → Call r v k t es xs o o₁ (Given (Open s)) → (n : ℕ) → (s + n ≡ lOf r) ↔ MostRows v r k es n
+  shortfall-exactly {s} c n =
+      let p : ShortfallBytes (lOf r) t (systemOf r v k t es xs) s = c .contract .1 .1 in (
+        λ e. subst (MostRows v r k es) (omega (arith, p .lacks .less)) (p .lacks .most),
+        λ m. let q : p .lacks .rank ≡ n = most-unique octets (p .lacks .most) m in omega (arith, p .lacks .less),
+      )
+
+  -- it is never 0
+  pub shortfall-positive : {s : ℕ} → Call r v k t es xs o o₁ (Given (Open s)) → 0 < s
+  shortfall-positive {s} c =
+      let p : OpenBytes (lOf r) t (systemOf r v k t es xs) = c .contract .1 .0 in
+      open-bytes-lacks (accepted (Open s) c .t-low) (fits-octets (p .first-fits)) p (c .contract .1 .1)
+
+  -- solved lacks nothing
+  pub solved-shortfall : Call r v k t es xs o o₁ (Given Solved) → ShortfallBytes (lOf r) t (systemOf r v k t es xs) 0
+  solved-shortfall c =
+      let s : SolvedBytes (lOf r) t (systemOf r v k t es xs) (setIn r t o₁) = c .contract .1 .0 in
+      solved-bytes-lacks-nothing (accepted Solved c .t-low) (fits-octets (s .fits)) s
+
+  -- so L rows are independent
+  pub solved-rows : Call r v k t es xs o o₁ (Given Solved) → MostRows v r k es (lOf r)
+  solved-rows c = let p = solved-shortfall c .lacks in subst (MostRows v r k es) (omega (arith, p .less)) (p .most)

@@ -1,0 +1,116 @@
+-- Fewer arrivals than source symbols are never solved, what is open takes at least its shortfall of arrivals more, and no arrivals are open.
+-- Assumes nothing.
+use mathlib.Core.Path.{_≡_, refl, sym, ap, _∙_, subst}
+use mathlib.Core.Logic.{_≢_, _⊎_, inl, inr}
+use mathlib.Core.List.{List, [], _++_}
+use Prim.Native.Nat.{ℕ, _+_, _-_, _*_, _≤_, _<_}
+use native.Mathlib.Decide.{decLt}
+use native.Mathlib.Omega.{arith}
+use borrow.Author.Tests.{lt-ltb}
+use lib.ListN.{length, getD, replicate, length-replicate, getD-replicate, length-append, List·getD-append, List·getD-eq-default}
+use Rattle.field.specs.Octet.{times}
+use Rattle.field.proofs.Laws.{times-zero}
+use Rattle.field.proofs.Sums.{sum-zero}
+use Rattle.headers.specs.Row.{lOf}
+use Rattle.headers.specs.declared.row.Row.{Row}
+use Rattle.linear.specs.Octets.{octets}
+use Rattle.linear.specs.Bytes.{ShortfallBytes}
+use Rattle.linear.proofs.Growth.{shortfall-floor}
+use Rattle.linear.proofs.Independent.{chosen-once}
+use Rattle.linear.proofs.Kernel.{pigeon}
+use Rattle.encoding.specs.Encoded.{combined}
+use Rattle.solver.specs.System.{fixed, equations, sentRow, rowOf, systemOf}
+use Rattle.solver.specs.declared.solver.Solution.the-variants.{Given}
+use Rattle.solver.specs.declared.verdict.Verdict.{Verdict}
+use Rattle.solver.specs.declared.verdict.Verdict.the-variants.{Solved, Contradiction, Open}
+use Rattle.solver.proofs.Holding.{row-arrival}
+use Rattle.promises.specs.Calls.{Call, Fitting, MostRows}
+use Rattle.promises.proofs.Exactly.{accepted, k-low, contradiction-none, solved-shortfall, solved-rows}
+
+-- independent rows are at most as many as there are rows
+most-rows-few : (v : List ℕ) (r : Row) (k : ℕ) (es : List ℕ) (n : ℕ) → MostRows v r k es n → n ≤ equations r k (length es)
+most-rows-few v r k es n m = pigeon octets n (equations r k (length es)) (m .some .place) (m .some .below) (chosen-once octets (m .some))
+
+module _ {v : List ℕ} {r : Row} {k t : ℕ} {es xs o o₁ : List ℕ} where
+  -- solved takes K arrivals at least: with fewer there are fewer equations than symbols
+  pub solved-takes : Call r v k t es xs o o₁ (Given Solved) → k ≤ length es
+  solved-takes c =
+      let h : lOf r ≤ equations r k (length es) = most-rows-few v r k es (lOf r) (solved-rows c) in
+      omega (arith, accepted Solved c .k-high)
+
+  -- so fewer are never solved
+  pub fewer-never-solved : length es < k → (w : Verdict) → Call r v k t es xs o o₁ (Given w) → w ≢ Solved
+  fewer-never-solved h w c e = let n : k ≤ length es = solved-takes (subst (λ (u : Verdict). Call r v k t es xs o o₁ (Given u)) e c) in omega arith
+
+  -- open with fewer than K arrivals lacks at least those that are missing
+  pub open-takes : {s : ℕ} → Call r v k t es xs o o₁ (Given (Open s)) → k ≤ s + length es
+  open-takes {s} c =
+      let high : k ≤ r .k = accepted (Open s) c .k-high in
+      let p = c .contract .1 .1 .lacks in
+      let h : p .rank ≤ equations r k (length es) = most-rows-few v r k es (p .rank) (p .most) in
+      omega (arith, p .less)
+
+-- ---- n arrivals more
+
+module _ (v : List ℕ) (r : Row) (k t : ℕ) (es xs gs ys : List ℕ) where
+  -- the first rows stay what they are, whatever the symbols
+  fixed-row : (i c : ℕ) → i < fixed r k → rowOf v r k (es ++ gs) i c ≡ rowOf v r k es i c
+  unfolding rowOf
+  fixed-row i c h = rw (lt-ltb i (fixed r k) h)
+
+  arrival-row : (i c : ℕ) → fixed r k ≤ i → i < fixed r k + length es → rowOf v r k (es ++ gs) i c ≡ rowOf v r k es i c
+  arrival-row i c l h =
+      row-arrival r v k t (es ++ gs) ys i c l ∙ ap (λ (e : ℕ). sentRow v r k e c) (List·getD-append es gs 0 (i - fixed r k) (omega arith))
+      ∙ sym (row-arrival r v k t es xs i c l)
+
+  lowered : {s u : ℕ} → ShortfallBytes (lOf r) t (systemOf r v k t es xs) s → ShortfallBytes (lOf r) t (systemOf r v k t (es ++ gs) ys) u → s ≤ length gs + u
+  lowered = shortfall-floor (length gs) (λ q. fixed r k + length es + q) (λ i h. go i h (decLt i (fixed r k)) (decLt i (fixed r k + length es)))
+    where
+      go : (i : ℕ) → i < equations r k (length (es ++ gs)) → Dec (i < fixed r k) → Dec (i < fixed r k + length es)
+          → ((q : ℕ) × (q < equations r k (length es)) × ((c : ℕ) → c < lOf r → rowOf v r k (es ++ gs) i c ≡ rowOf v r k es q c)) ⊎ ((q : ℕ) × (q < length gs) × (i ≡ fixed r k + length es + q))
+      go i h (yes q) l = inl (i, omega arith, λ c _. fixed-row i c q)
+      go i h (no q) (yes l) = inl (i, l, λ c _. arrival-row i c (omega arith) l)
+      go i h (no q) (no l) = inr (i - (fixed r k + length es), omega (arith, length-append es gs), omega arith)
+
+module _ {v : List ℕ} {r : Row} {k t : ℕ} {es xs o o₁ p p₁ : List ℕ} {s : ℕ} (gs ys : List ℕ) (c : Call r v k t es xs o o₁ (Given (Open s))) where
+  -- n arrivals more, with whatever symbols, lower the shortfall by n at most
+  pub more-lower : {u : ℕ} → Call r v k t (es ++ gs) ys p p₁ (Given (Open u)) → s ≤ length gs + u
+  more-lower d = lowered v r k t es xs gs ys (c .contract .1 .1) (d .contract .1 .1)
+
+  -- so open with shortfall s is not solved by fewer than s more
+  pub more-needed : Call r v k t (es ++ gs) ys p p₁ (Given Solved) → s ≤ length gs
+  more-needed d = let h = lowered v r k t es xs gs ys (c .contract .1 .1) (solved-shortfall d) in omega arith
+
+-- ---- no arrivals
+
+abbrev nothing : ℕ → List ℕ
+nothing n = replicate n 0
+
+zeros : (n i : ℕ) → getD (nothing n) i 0 ≡ 0
+zeros n i = go (decLt i n)
+  where
+    go : Dec (i < n) → getD (nothing n) i 0 ≡ 0
+    go (yes h) = getD-replicate n i 0 0 h
+    go (no h) = List·getD-eq-default (nothing n) 0 {n = i} (let e : length (nothing n) ≡ n = length-replicate n 0 in omega arith)
+
+-- the set of zeros gives 0 for every row
+zero-sum : (n t l b : ℕ) (f : ℕ → ℕ) → combined t (nothing n) l f b ≡ 0
+zero-sum n t l b f = sum-zero l (λ c h. ap (times (f c)) (zeros n (c * t + b)) ∙ times-zero (f c))
+
+-- it fits where nothing came
+zero-fits : (v : List ℕ) (r : Row) (k t : ℕ) (xs : List ℕ) → Fitting v r k t [] xs (nothing (lOf r * t))
+zero-fits v r k t xs = record {
+  block = record { size = length-replicate (lOf r * t) 0; bytes = λ i. subst (λ (x : ℕ). x < 256) (sym (zeros (lOf r * t) i)) (omega arith) };
+  meets = record {
+    ldpc = λ i h b l. zero-sum (lOf r * t) t (lOf r) b _;
+    hdpc = λ i h b l. zero-sum (lOf r * t) t (lOf r) b _;
+    padding = λ x p q b l. zero-sum (lOf r * t) t (lOf r) b _;
+  };
+  yields = record { arrival = λ i h. absurd (omega arith) };
+}
+
+-- no arrivals give open, and K more at least are lacking
+pub none-open : {v : List ℕ} {r : Row} {k t : ℕ} {xs o o₁ : List ℕ} (w : Verdict) → Call r v k t [] xs o o₁ (Given w) → (s : ℕ) × (w ≡ Open s) × (k ≤ s)
+none-open Solved c = absurd (let h = solved-takes c in omega (arith, k-low Solved c))
+none-open {v} {r} {k} {t} {xs} Contradiction c = absurd (contradiction-none c (nothing (lOf r * t)) (zero-fits v r k t xs))
+none-open (Open s) c = (s, refl, (let h = open-takes c in omega arith))

@@ -1,0 +1,83 @@
+-- A solved set re-encodes every arrival, and for any other ESI gives what every set that fits gives.
+-- Assumes nothing.
+use mathlib.Core.Path.{_≡_, refl, sym, ap, _∙_, subst}
+use mathlib.Core.List.{List}
+use Prim.Native.Nat.{ℕ, _+_, _*_, _≤_, _<_}
+use native.Mathlib.Omega.{arith}
+use borrow.Author.Tests.{le-ltb, le-leb, lt-leb, eq-eqb, ne-eqb}
+use lib.ListN.{length, getD}
+use lib.Seq.{getD-take}
+use Rattle.field.specs.Answer.{given}
+use Rattle.field.specs.Octet.{times}
+use Rattle.field.proofs.Refusals.{done-only}
+use Rattle.field.proofs.Sums.{sum-same}
+use Rattle.field.specs.declared.refusal.Answer as Plain
+use Rattle.field.specs.declared.refusal.Answer.the-variants as Plains
+use Rattle.headers.specs.Row.{Obeys, lOf}
+use Rattle.headers.specs.Shift.{shifted}
+use Rattle.headers.specs.declared.row.Row.{Row}
+use Rattle.headers.proofs.Accepted.{obeyed}
+use Rattle.constraints.specs.Encoding.{encOf}
+use Rattle.linear.specs.Bytes.{cell, Block}
+use Rattle.linear.proofs.Bytes.{cell-lt}
+use Rattle.encoding.specs.Encoded.{Encodes, allowed}
+use Rattle.encoding.proofs.Allowed.{never-long}
+use Rattle.solver.specs.declared.solver.Solution.the-variants.{Given}
+use Rattle.solver.specs.declared.verdict.Verdict.{Verdict}
+use Rattle.solver.specs.declared.verdict.Verdict.the-variants.{Solved}
+use Rattle.solver.proofs.Admitted.{small}
+use Rattle.promises.specs.Calls.{Call, Came, Meets, Fitting, Encoding, sent, setIn}
+use Rattle.promises.proofs.Exactly.{accepted, k-low, solved-single}
+use Rattle.promises.proofs.Never.{encodes-sent, sent-fitting}
+
+-- only the first L·T octets of the intermediates are read
+sent-set : (v : List ℕ) (r : Row) (k t : ℕ) (C D : List ℕ) (e b : ℕ) → setIn r t C ≡ D → b < t → sent v r k t C e b ≡ sent v r k t D e b
+sent-set v r k t C D e b q l = sum-same (lOf r) (λ c h. ap (times (encOf v r (shifted e k (r .k)) c)) (at (c * t + b) (cell-lt t (lOf r) c b h l)))
+  where
+    at : (x : ℕ) → x < lOf r * t → getD C x 0 ≡ getD D x 0
+    at x h = sym (getD-take (lOf r * t) C x 0 h) ∙ ap (λ (z : List ℕ). getD z x 0) q
+
+-- Solved, and `encode` is called with intermediates C that begin with the solved set, as the out store itself does.
+module _ {v : List ℕ} {r : Row} {k t : ℕ} {es xs o o₁ C : List ℕ} (c : Call r v k t es xs o o₁ (Given Solved)) (same : setIn r t C ≡ setIn r t o₁) where
+  -- for an ESI that came, a source symbol or another, it writes the symbol that came
+  pub reencodes : {e : ℕ} {f : ℕ → ℕ} {ys zs : List ℕ} → Came t es xs e f → Encodes v r k t e C ys zs Plains.Done → (b : ℕ) → b < t → getD zs b 0 ≡ f b
+  reencodes {e} x n b l =
+      encodes-sent n b l ∙ sent-set v r k t C (setIn r t o₁) e b same l ∙ ap (λ (y : ℕ). sent v r k t (setIn r t o₁) y b) (x .esi)
+      ∙ solved-single c .fits .yields .arrival (x .place) (x .below) b l ∙ sym (x .symbol b l)
+
+  -- for any ESI it writes what each set that fits yields
+  pub rebuilds : {e : ℕ} {D ys zs : List ℕ} → Fitting v r k t es xs D → Encodes v r k t e C ys zs Plains.Done → (b : ℕ) → b < t → getD zs b 0 ≡ sent v r k t D e b
+  rebuilds {e} {D} f n b l = encodes-sent n b l ∙ sent-set v r k t C D e b (same ∙ sym (solved-single c .only D f)) l
+
+  -- so it writes what the sender's `encode` writes from the sender's set D
+  pub rebuilds-sent : {e : ℕ} {D ys zs ys′ zs′ : List ℕ} → Fitting v r k t es xs D → Encodes v r k t e C ys zs Plains.Done → Encodes v r k t e D ys′ zs′ Plains.Done
+      → (b : ℕ) → b < t → getD zs b 0 ≡ getD zs′ b 0
+  rebuilds-sent f n m b l = rebuilds f n b l ∙ sym (encodes-sent m b l)
+
+-- Nothing is invented: if `encode` made every arrival from one set D that meets the constraints, then out of a solved store it makes, for each
+-- ESI and so for every source symbol, the symbol that it makes from D.
+pub recovers : {v : List ℕ} {r : Row} {k t e : ℕ} {es xs o o₁ D ys zs ys′ zs′ : List ℕ} → Block (lOf r) t D → Meets v r k t D
+    → ((i : ℕ) → i < length es → Encoding v r k t (getD es i 0) D (cell t xs i)) → Call r v k t es xs o o₁ (Given Solved)
+    → Encodes v r k t e o₁ ys zs Plains.Done → Encodes v r k t e D ys′ zs′ Plains.Done → (b : ℕ) → b < t → getD zs b 0 ≡ getD zs′ b 0
+recovers block meets made c n m = rebuilds-sent c refl (sent-fitting block meets made) n m
+
+-- ---- and such a call is not refused
+
+allows : (r : Row) (tables k t e have room : ℕ) → Obeys r → tables ≡ 1024 → 1 ≤ k → k ≤ r .k → e < 16777216 → 0 < t → lOf r * t ≤ have → t ≤ room
+    → allowed r tables k t e have room ≡ given tt
+allows r tables k t e have room rules whole low high sent some enough fits =
+    rw (obeyed rules, eq-eqb tables 1024 whole, le-leb 1 k low, le-leb k (r .k) high, lt-leb 16777216 e sent, ne-eqb t 0 (λ q. absurd (omega arith)), le-ltb have (lOf r * t) enough, le-ltb room t fits)
+
+-- for any ESI below 2^24, with intermediates that have room for the set and an out store that has room for a symbol
+pub reencoding-done : {v : List ℕ} {r : Row} {k t : ℕ} {es xs o o₁ C : List ℕ} {e : ℕ} {ys zs : List ℕ} {a : Plain.Answer} (w : Verdict)
+    → Call r v k t es xs o o₁ (Given w)
+    → e < 16777216 → lOf r * t ≤ length C → t ≤ length ys → Encodes v r k t e C ys zs a → a ≡ Plains.Done
+reencoding-done {v} {r} {k} {t} {C = C} {e = e} {ys = ys} {a = a} w c sent enough room n =
+    let h = accepted w c in
+    done-only a Plains.Done (n .answer ∙ never-long v r k t e (length C) (length ys)
+    ∙ allows r (length v) k t e (length C) (length ys) (h .rules) (h .whole) (k-low w c) (h .k-high) sent (h .t-low) enough room)
+
+-- and that of an arrival is below 2^24
+pub came-small : {v : List ℕ} {r : Row} {k t : ℕ} {es xs o o₁ : List ℕ} {e : ℕ} {f : ℕ → ℕ} (w : Verdict) → Call r v k t es xs o o₁ (Given w) → Came t es xs e f
+    → e < 16777216
+came-small {es = es} w c x = subst (λ (n : ℕ). n < 16777216) (sym (x .esi)) (small es (accepted w c .sent) (x .place) (x .below))
