@@ -1,4 +1,5 @@
 //! What an area found: how many cases, how many differences, and how many cases a named rule set apart.
+use crate::Random;
 use std::collections::BTreeMap;
 
 pub struct Report {
@@ -40,4 +41,17 @@ impl Report {
         println!("{line}");
         self.differences == 0
     }
+}
+
+/// An area of two kinds of cases: `count` of the first, a twentieth as many of the second.
+pub fn area(name: &'static str, count: u64, seed: u64, first: fn(&mut Report, &mut Random), second: fn(&mut Report, &mut Random)) -> bool {
+    let mut report = Report::new(name);
+    let mut random = Random::new(seed);
+    for _ in 0..count {
+        first(&mut report, &mut random);
+    }
+    for _ in 0..count / 20 {
+        second(&mut report, &mut random);
+    }
+    report.close()
 }
