@@ -8,11 +8,13 @@ pub struct Report {
     differences: u64,
     /// Cases that a rule of docs/DIFFERENCES.md names, where the two sides are known to differ and were seen to.
     named: BTreeMap<&'static str, u64>,
+    /// How many cases were of which kind, where an area tells.
+    kinds: BTreeMap<&'static str, u64>,
 }
 
 impl Report {
     pub fn new(area: &'static str) -> Report {
-        Report { area, cases: 0, differences: 0, named: BTreeMap::new() }
+        Report { area, cases: 0, differences: 0, named: BTreeMap::new(), kinds: BTreeMap::new() }
     }
 
     /// One case: the same on both sides, or a difference whose input is printed (the first twenty).
@@ -32,9 +34,18 @@ impl Report {
         self.case(as_listed, input);
     }
 
+    /// One case of a kind that the area's line counts.
+    pub fn of(&mut self, kind: &'static str, same: bool, input: impl FnOnce() -> String) {
+        *self.kinds.entry(kind).or_insert(0) += 1;
+        self.case(same, input);
+    }
+
     /// Prints the area's line; true where there was no difference.
     pub fn close(self) -> bool {
         let mut line = format!("{}: {} cases, {} differences", self.area, self.cases, self.differences);
+        for (kind, count) in &self.kinds {
+            line += &format!("; {count} {kind}");
+        }
         for (rule, count) in &self.named {
             line += &format!("; {count} as listed under {rule}");
         }
