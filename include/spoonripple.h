@@ -2,8 +2,9 @@
  *
  * A number passes as itself, a slice as pointer and length. A pointer is valid for its length, even where that is 0 it is
  * not null, and what is lent for writing overlaps nothing else that is lent to the same call.
- * The result is 0 where the call was done, else the number of its refusal in docs/01-scope.md; a call that refuses has
- * changed no byte that it was lent. Values go to the front of `out`, of which the rest stays.
+ * The result is 0 where the call was done, else the number of its refusal in docs/01-scope.md (100 and 101 are two more
+ * answers of spoonripple_solve); a call that refuses has changed no byte that it was lent. Values go to the front of `out`,
+ * of which the rest stays.
  */
 #ifndef SPOONRIPPLE_H
 #define SPOONRIPPLE_H
@@ -26,6 +27,9 @@ extern "C" {
 #define SPOONRIPPLE_WRONG_LENGTH 8
 #define SPOONRIPPLE_BAD_COUNT 9
 #define SPOONRIPPLE_BAD_SIZE 10
+/* What a call that solves answers besides, no refusals. */
+#define SPOONRIPPLE_CONTRADICTION 100
+#define SPOONRIPPLE_OPEN 101
 
 /* Octets (RFC 6330, 5.7.2): out[0] is the sum, the difference, the product, a + b * c. Refusal: 8 (out has no place). */
 uint32_t spoonripple_octet_add(uint8_t a, uint8_t b, uint64_t *out, size_t out_len);
@@ -130,6 +134,23 @@ uint32_t spoonripple_constraint_matrix_no_hdpc(uint32_t k, uint32_t j, uint32_t 
  * Refusals: 4, 5, 9 (count not in 1..K', esi of 2^24 or more), 10 (t is 0), 8 (intermediates or out too short). */
 uint32_t spoonripple_encode(uint32_t k, uint32_t j, uint32_t s, uint32_t h, uint32_t w, const uint32_t *tables, size_t len, uint32_t count, uint16_t t, uint32_t esi,
                             const uint8_t *intermediates, size_t intermediates_len, uint8_t *out, size_t out_len);
+
+/* The intermediate symbols of a block of count source symbols of t octets, out of n arrivals: their ESIs, and their symbols one after the other.
+ * With L = K' + S + H and M = S + H + K' - count + n, scratch is M * L octets of rows and M * t of values, which are 0 after each answer; out is L * t octets.
+ * 0: solved, intermediate symbol c stands at c * t of out. SPOONRIPPLE_CONTRADICTION: no set of symbols fits. SPOONRIPPLE_OPEN: more than one fits, and shortfall[0] is how
+ * many independent rows are missing. out is written only where the answer is 0, shortfall only where it is SPOONRIPPLE_OPEN. No arrivals are taken, and open.
+ * Refusals: 4, 5, 9 (count not in 1..K', an ESI of 2^24 or more, more than 65,535 arrivals), 10 (t is 0, or symbols_len is not n * t), 8 (rows, values or out too short, or
+ * shortfall has no place). */
+uint32_t spoonripple_solve(uint32_t k, uint32_t j, uint32_t s, uint32_t h, uint32_t w, const uint32_t *tables, size_t len, uint32_t count, uint16_t t,
+                           const uint32_t *esis, size_t n, const uint8_t *symbols, size_t symbols_len, uint8_t *rows, size_t rows_len, uint8_t *values, size_t values_len,
+                           uint8_t *out, size_t out_len, uint64_t *shortfall, size_t shortfall_len);
+
+/* Where source symbol i of a block of k source symbols of t octets is displayed from: out[0] is 0 for the arrivals, of which the first with ESI i counts, 1 for the rebuilt store
+ * of k * t octets; out[1] is where its t octets begin there. Nothing but the ESIs is read, and only out is written.
+ * Refusals: 9 (k not in 1..56,403, more than 65,535 arrivals, an ESI of 2^24 or more), 10 (t is 0, or arrivals_len is not n * t), 8 (rebuilt too short, or out has no room for
+ * two values), 6 (i is k or more). */
+uint32_t spoonripple_display(uint32_t k, uint16_t t, const uint32_t *esis, size_t n, const uint8_t *arrivals, size_t arrivals_len, const uint8_t *rebuilt, size_t rebuilt_len,
+                             uint32_t i, uint64_t *out, size_t out_len);
 
 #ifdef __cplusplus
 }

@@ -1,12 +1,14 @@
 //! One line a piece of work: our time over that of plain Rust, both taken in this process in turns, the best of several rounds.
 mod builders;
 mod field;
+mod plain;
+mod solver;
 mod stores;
 
 use std::time::Instant;
 
 /// The time of `work` done `times` over, in seconds.
-fn timed(times: usize, work: &mut dyn FnMut()) -> f64 {
+pub fn timed(times: usize, work: &mut dyn FnMut()) -> f64 {
     let start = Instant::now();
     for _ in 0..times {
         work();
@@ -29,8 +31,16 @@ pub fn line(work: &str, against: &str, ratio: f64, bar: Option<f64>) {
     println!("{work:<34} {ratio:>6.2} times {against}{bar}");
 }
 
+/// All areas, or the one that is named.
 fn main() {
-    field::run();
-    stores::run();
-    builders::run();
+    let areas: [(&str, fn()); 4] = [("field", field::run), ("stores", stores::run), ("builders", builders::run), ("solver", solver::run)];
+    let named = std::env::args().nth(1);
+    let chosen: Vec<_> = areas.iter().filter(|(name, _)| named.as_deref().is_none_or(|n| n == *name)).collect();
+    if chosen.is_empty() {
+        eprintln!("run: there is no such area");
+        std::process::exit(2);
+    }
+    for (_, run) in chosen {
+        run();
+    }
 }

@@ -44,6 +44,8 @@ unsafe extern "C" {
     fn spoonripple_constraint_matrix(k: u32, j: u32, s: u32, h: u32, w: u32, tables: *const u32, len: usize, ids: *const u32, n: usize, words: *mut u64, words_len: usize) -> u32;
     fn spoonripple_constraint_matrix_no_hdpc(k: u32, j: u32, s: u32, h: u32, w: u32, tables: *const u32, len: usize, ids: *const u32, n: usize, words: *mut u64, words_len: usize) -> u32;
     fn spoonripple_encode(k: u32, j: u32, s: u32, h: u32, w: u32, tables: *const u32, len: usize, count: u32, t: u16, esi: u32, intermediates: *const u8, intermediates_len: usize, out: *mut u8, out_len: usize) -> u32;
+    fn spoonripple_solve(k: u32, j: u32, s: u32, h: u32, w: u32, tables: *const u32, len: usize, count: u32, t: u16, esis: *const u32, n: usize, symbols: *const u8, symbols_len: usize, rows: *mut u8, rows_len: usize, values: *mut u8, values_len: usize, out: *mut u8, out_len: usize, shortfall: *mut u64, room: usize) -> u32;
+    fn spoonripple_display(k: u32, t: u16, esis: *const u32, n: usize, arrivals: *const u8, arrivals_len: usize, rebuilt: *const u8, rebuilt_len: usize, i: u32, out: *mut u64, room: usize) -> u32;
     fn spoonripple_run_add(dst: *mut u8, dst_len: usize, src: *const u8, src_len: usize) -> u32;
     fn spoonripple_run_scale(dst: *mut u8, dst_len: usize, c: u8) -> u32;
     fn spoonripple_run_fma(dst: *mut u8, dst_len: usize, src: *const u8, src_len: usize, c: u8) -> u32;
@@ -239,5 +241,43 @@ pub fn constraint_matrix_no_hdpc([k, j, s, h, w]: Row, tables: &[u32], ids: &[u3
 pub fn encode([k, j, s, h, w]: Row, tables: &[u32], count: u32, t: u16, esi: u32, intermediates: &[u8], out: &mut [u8]) -> Answer<()> {
     done(unsafe {
         spoonripple_encode(k, j, s, h, w, tables.as_ptr(), tables.len(), count, t, esi, intermediates.as_ptr(), intermediates.len(), out.as_mut_ptr(), out.len())
+    })
+}
+
+/// What arrived of a block of `count` source symbols of t octets: ESIs, and the symbols one after the other.
+#[derive(Clone, Copy, Debug)]
+pub struct Arrived<'a> {
+    pub count: u32,
+    pub t: u16,
+    pub esis: &'a [u32],
+    pub symbols: &'a [u8],
+}
+
+/// The four stores that `solve` is lent.
+#[derive(Clone, Debug, Default, PartialEq)]
+pub struct Stores {
+    pub rows: Vec<u8>,
+    pub values: Vec<u8>,
+    pub out: Vec<u8>,
+    pub shortfall: Vec<u64>,
+}
+
+/// 0 solved, 100 contradiction, 101 open, else the number of the refusal.
+#[inline]
+pub fn solve([k, j, s, h, w]: Row, tables: &[u32], came: Arrived, lent: &mut Stores) -> u32 {
+    let Stores { rows, values, out, shortfall } = lent;
+    unsafe {
+        spoonripple_solve(
+            k, j, s, h, w, tables.as_ptr(), tables.len(), came.count, came.t, came.esis.as_ptr(), came.esis.len(), came.symbols.as_ptr(), came.symbols.len(),
+            rows.as_mut_ptr(), rows.len(), values.as_mut_ptr(), values.len(), out.as_mut_ptr(), out.len(), shortfall.as_mut_ptr(), shortfall.len(),
+        )
+    }
+}
+
+/// Source symbol i, out of what arrived and the rebuilt store.
+pub fn display(came: Arrived, rebuilt: &[u8], i: u32, out: &mut [u64]) -> Answer<()> {
+    let Arrived { count, t, esis, symbols } = came;
+    done(unsafe {
+        spoonripple_display(count, t, esis.as_ptr(), esis.len(), symbols.as_ptr(), symbols.len(), rebuilt.as_ptr(), rebuilt.len(), i, out.as_mut_ptr(), out.len())
     })
 }

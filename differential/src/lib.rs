@@ -5,6 +5,7 @@ use std::sync::Once;
 pub mod archive;
 pub mod report;
 pub mod rows;
+pub mod system;
 
 /// A small generator of its own (xorshift64*), so that a seed gives the same cases on every machine.
 pub struct Random(u64);

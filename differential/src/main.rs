@@ -5,6 +5,7 @@ mod field;
 mod headers;
 mod matrix;
 mod slab;
+mod solver;
 mod vectors;
 
 fn main() {
@@ -20,8 +21,8 @@ fn main() {
         eprintln!("usage: run AREA [COUNT] [SEED]");
         std::process::exit(2);
     };
-    let areas: [(&str, fn(u64, u64) -> bool); 6] =
-        [("field", field::run), ("headers", headers::run), ("matrix", matrix::run), ("slab", slab::run), ("constraints", constraints::run), ("encoding", encoding::run)];
+    let areas: [(&str, fn(u64, u64) -> bool); 7] =
+        [("field", field::run), ("headers", headers::run), ("matrix", matrix::run), ("slab", slab::run), ("constraints", constraints::run), ("encoding", encoding::run), ("solver", solver::run)];
     let mut ran = false;
     let mut same = true;
     for (name, run) in areas {

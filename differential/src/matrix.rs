@@ -1,6 +1,6 @@
 //! The binary matrix: random sequences of operations on both sides, the whole memory compared after each, stray bits too.
 use differential::archive::{self, Answer, Shape};
-use differential::report::Report;
+use differential::report::{Report, area};
 use differential::{Random, caught, values};
 use raptorq::matrix::{BinaryMatrix, DenseBinaryMatrix};
 use raptorq::octet::Octet;
@@ -190,13 +190,5 @@ fn stores(report: &mut Report, random: &mut Random) {
 }
 
 pub fn run(count: u64, seed: u64) -> bool {
-    let mut report = Report::new("matrix");
-    let mut random = Random::new(seed);
-    for _ in 0..count {
-        sequence(&mut report, &mut random);
-    }
-    for _ in 0..count / 20 {
-        stores(&mut report, &mut random);
-    }
-    report.close()
+    area("matrix", count, seed, sequence, stores)
 }

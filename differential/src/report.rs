@@ -1,4 +1,5 @@
 //! What an area found: how many cases, how many differences, and how many cases a named rule set apart.
+use crate::Random;
 use std::collections::BTreeMap;
 
 pub struct Report {
@@ -7,11 +8,13 @@ pub struct Report {
     differences: u64,
     /// Cases that a rule of docs/DIFFERENCES.md names, where the two sides are known to differ and were seen to.
     named: BTreeMap<&'static str, u64>,
+    /// How many cases were of which kind, where an area tells.
+    kinds: BTreeMap<&'static str, u64>,
 }
 
 impl Report {
     pub fn new(area: &'static str) -> Report {
-        Report { area, cases: 0, differences: 0, named: BTreeMap::new() }
+        Report { area, cases: 0, differences: 0, named: BTreeMap::new(), kinds: BTreeMap::new() }
     }
 
     /// One case: the same on both sides, or a difference whose input is printed (the first twenty).
@@ -31,13 +34,35 @@ impl Report {
         self.case(as_listed, input);
     }
 
+    /// One case of a kind that the area's line counts.
+    pub fn of(&mut self, kind: &'static str, same: bool, input: impl FnOnce() -> String) {
+        *self.kinds.entry(kind).or_insert(0) += 1;
+        self.case(same, input);
+    }
+
     /// Prints the area's line; true where there was no difference.
     pub fn close(self) -> bool {
         let mut line = format!("{}: {} cases, {} differences", self.area, self.cases, self.differences);
+        for (kind, count) in &self.kinds {
+            line += &format!("; {count} {kind}");
+        }
         for (rule, count) in &self.named {
             line += &format!("; {count} as listed under {rule}");
         }
         println!("{line}");
         self.differences == 0
     }
+}
+
+/// An area of two kinds of cases: `count` of the first, a twentieth as many of the second.
+pub fn area(name: &'static str, count: u64, seed: u64, first: fn(&mut Report, &mut Random), second: fn(&mut Report, &mut Random)) -> bool {
+    let mut report = Report::new(name);
+    let mut random = Random::new(seed);
+    for _ in 0..count {
+        first(&mut report, &mut random);
+    }
+    for _ in 0..count / 20 {
+        second(&mut report, &mut random);
+    }
+    report.close()
 }

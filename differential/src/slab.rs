@@ -1,6 +1,6 @@
 //! The symbol slab: random sequences of operations on both sides, the whole memory compared after each.
 use differential::archive::{self, Answer, Slab};
-use differential::report::Report;
+use differential::report::{Report, area};
 use differential::{Random, caught, values};
 use raptorq::octet::Octet;
 use raptorq::symbol_slab::SymbolSlab;
@@ -122,13 +122,5 @@ fn stores(report: &mut Report, random: &mut Random) {
 }
 
 pub fn run(count: u64, seed: u64) -> bool {
-    let mut report = Report::new("slab");
-    let mut random = Random::new(seed);
-    for _ in 0..count {
-        sequence(&mut report, &mut random);
-    }
-    for _ in 0..count / 20 {
-        stores(&mut report, &mut random);
-    }
-    report.close()
+    area("slab", count, seed, sequence, stores)
 }

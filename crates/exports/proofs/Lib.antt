@@ -1,2 +1,3 @@
 -- That the C interface's contracts settle answer and memory.
 pub mod Calls
+pub mod Solving

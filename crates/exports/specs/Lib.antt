@@ -1,3 +1,4 @@
 -- What the contracts of `exports` cite.
 pub mod Call
 pub mod Numbers
+pub mod Solving

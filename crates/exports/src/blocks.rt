@@ -1,13 +1,27 @@
-// A block's symbols: the encoding of one, and where a source symbol is displayed from (document 01, 'Solver and symbols').
+// A block's symbols: solving, the encoding of one, and where a source symbol is displayed from (document 01, 'Solver and symbols').
+ghost use mathlib.Core.Path.{_≡_};
+ghost use mathlib.Core.List.{[]};
+ghost use Prim.Native.Nat.{_≤_};
+ghost use lib.Dec.{ltb};
 ghost use lib.ListN.{length};
+ghost use Rattle.field.specs.Answer.{given};
+ghost use Rattle.field.specs.Choice.{pick};
 ghost use Rattle.field.specs.Runs.{Written};
 ghost use Rattle.headers.specs.Shift.{shifted};
 ghost use Rattle.encoding.specs.Encoded.{encoded, encodes};
-ghost use Rattle.exports.specs.Call.{Did};
+ghost use Rattle.exports.specs.Call.{Called, Did, Kept, code};
 ghost use Rattle.exports.specs.Numbers.{row};
+ghost use Rattle.exports.specs.Solving.{Solving, displayed, lacking, taken, verdictCode};
+use crate::values::hand;
 use crate::values::told;
 use encoding::encoder;
+use field::refusal::number;
 use headers::row::Row;
+use solver::display::Shown;
+use solver::display::locate;
+use solver::solver::Solution;
+use solver::solver::solve;
+use solver::verdict::Verdict;
 
 // The symbol of an ESI of a block of `count` source symbols of t octets, from its L intermediate symbols, at the front of `out`.
 #[no_mangle]
@@ -29,4 +43,108 @@ pub extern "C" fn spoonripple_encode(
 {
     let r = Row { k, j, s, h, w };
     told(encoder::encode(r, tables, count, t, esi, intermediates, out))
+}
+
+// A verdict's number; how many independent rows an open system lacks goes to the front of `shortfall`.
+fn tell(v: Verdict, shortfall: &mut [u64]) -> u32
+    requires { ⌜ 1 ≤ length (now shortfall) ⌝ }
+    ensures { λ r. ⌜ (r ≡ verdictCode v) × Kept (given (lacking v)) (now (shortfall .entry)) (now (shortfall .exit)) ⌝ }
+{
+    match v {
+        Verdict::Solved => 0,
+        Verdict::Contradiction => 100,
+        Verdict::Open(rows) => {
+            shortfall[0] = rows as u64;
+            101
+        }
+    }
+}
+
+// The refusal of a call that was lent no room for a shortfall: with no room for rows `solve` refuses, by 8 at the latest.
+fn unroomed(
+    r: Row,
+    tables: &[u32],
+    count: u32,
+    t: u16,
+    esis: &[u32],
+    symbols: &[u8],
+    rows: &mut [u8],
+    values: &mut [u8],
+    out: &mut [u8],
+) -> u32
+    ensures { λ n. ⌜ n ≡ code (taken r (now (tables .entry)) count t (now (esis .entry)) (now (symbols .entry)) (now (rows .entry)) (now (values .entry)) (now (out .entry)) []) ⌝ }
+    ensures { λ _. ⌜ (now (rows .exit) ≡ now (rows .entry)) × (now (values .exit) ≡ now (values .entry)) × (now (out .exit) ≡ now (out .entry)) ⌝ }
+{
+    let none = &mut rows[0..0];
+    match solve(r, tables, count, t, esis, symbols, none, values, out) {
+        Solution::Given(_) => 8,
+        Solution::Refused(why) => number(why),
+    }
+}
+
+// The intermediate symbols of a block of `count` source symbols of t octets, out of the arrivals: 0 solved, 100 contradiction, 101 open.
+#[no_mangle]
+pub extern "C" fn spoonripple_solve(
+    k: u32,
+    j: u32,
+    s: u32,
+    h: u32,
+    w: u32,
+    tables: &[u32],
+    count: u32,
+    t: u16,
+    esis: &[u32],
+    symbols: &[u8],
+    rows: &mut [u8],
+    values: &mut [u8],
+    out: &mut [u8],
+    shortfall: &mut [u64],
+) -> u32
+    ensures { λ n. ⌜ Solving (row k j s h w) (now (tables .entry)) count t (now (esis .entry)) (now (symbols .entry)) (now (rows .entry)) (now (values .entry)) (now (out .entry)) (now (shortfall .entry)) (now (rows .exit)) (now (values .exit)) (now (out .exit)) (now (shortfall .exit)) n ⌝ }
+{
+    let r = Row { k, j, s, h, w };
+    if shortfall.len() < 1 {
+        return unroomed(r, tables, count, t, esis, symbols, rows, values, out);
+    }
+    match solve(r, tables, count, t, esis, symbols, rows, values, out) {
+        Solution::Given(v) => tell(v, shortfall),
+        Solution::Refused(why) => number(why),
+    }
+}
+
+// A slice without room is refused as a rebuilt store without room is: before a symbol outside (6).
+fn measured(built: usize, room: usize) -> usize
+    ensures { λ r. ⌜ r ≡ pick (ltb room 2) 0 built ⌝ }
+{
+    if room < 2 {
+        return 0;
+    }
+    built
+}
+
+// Values: 0 where source symbol i stands among the arrivals, 1 where in the rebuilt store, and where its t bytes begin there.
+#[no_mangle]
+pub extern "C" fn spoonripple_display(
+    k: u32,
+    t: u16,
+    esis: &[u32],
+    arrivals: &[u8],
+    rebuilt: &[u8],
+    i: u32,
+    out: &mut [u64],
+) -> u32
+    ensures { λ r. ⌜ Called (displayed k t (now (esis .entry)) (length (now (arrivals .entry))) (length (now (rebuilt .entry))) i (now (out .entry))) (now (out .entry)) (now (out .exit)) r ⌝ }
+{
+    let built = measured(rebuilt.len(), out.len());
+    match locate(k, t, esis, arrivals.len(), built, i) {
+        Shown::Arrived(from) => {
+            let values = [0, from as u64];
+            hand(&values, out)
+        }
+        Shown::Rebuilt(from) => {
+            let values = [1, from as u64];
+            hand(&values, out)
+        }
+        Shown::Refused(why) => number(why),
+    }
 }

@@ -1,0 +1,141 @@
+//! Solving a block of which K + 2 repair packets came and no source packet: against the same elimination in plain Rust, and against the crate's
+//! block decoder, which also rebuilds the source symbols.
+use crate::plain::{self, Order, Plan, Way};
+use crate::{line, timed};
+use differential::archive::{self, Arrived, Row, Stores};
+use differential::{Random, rows};
+use raptorq::{EncodingPacket, ObjectTransmissionInformation, SourceBlockDecoder, SourceBlockEncoder};
+use raptorq_lent::rng::lent::published;
+use std::hint::black_box;
+
+/// How ours goes (crates/solver/src/beneath/filling.rt and eliminate.rt): the plain elimination takes the rows in the same order.
+const OURS: Plan = Plan { order: Order::AsTheyCame, way: Way::AtOnce };
+
+const T: u16 = 1024;
+
+/// A block with its packets, and room for a call.
+struct Block {
+    row: Row,
+    k: u32,
+    data: Vec<u8>,
+    packets: Vec<EncodingPacket>,
+    esis: Vec<u32>,
+    symbols: Vec<u8>,
+    lent: Stores,
+}
+
+impl Block {
+    fn new(random: &mut Random, k: u32) -> Block {
+        let data = random.bytes(k as usize * usize::from(T));
+        let row = *rows::published().iter().find(|r| r[0] >= k).expect("a row of Table 2");
+        let packets = SourceBlockEncoder::new(0, &config(k), &data).repair_packets(0, k + 2);
+        let esis: Vec<u32> = packets.iter().map(|p| p.payload_id().encoding_symbol_id()).collect();
+        let symbols = packets.iter().flat_map(|p| p.data().to_vec()).collect();
+        let [l, m, t] = measures(row, k, esis.len());
+        let lent = Stores { rows: vec![0; m * l], values: vec![0; m * t], out: vec![0; l * t], shortfall: vec![0] };
+        Block { row, k, data, packets, esis, symbols, lent }
+    }
+
+    fn came(&self) -> Arrived<'_> {
+        Arrived { count: self.k, t: T, esis: &self.esis, symbols: &self.symbols }
+    }
+
+    /// The crate's time; its packets are made before.
+    fn decoded(&self) -> f64 {
+        let mut packets = self.packets.clone();
+        timed(1, &mut || {
+            let mut decoder = SourceBlockDecoder::new(0, &config(self.k), self.data.len() as u64);
+            assert!(black_box(decoder.decode(std::mem::take(&mut packets))).is_some());
+        })
+    }
+
+    /// The source symbols, by our encoding of intermediate symbols.
+    fn rebuilt(&self, tables: &[u32], set: &[u8]) -> Vec<u8> {
+        let mut block = vec![0; self.data.len()];
+        for (esi, symbol) in (0..).zip(block.chunks_mut(T.into())) {
+            archive::encode(self.row, tables, self.k, T, esi, set, symbol).expect("an encoding");
+        }
+        block
+    }
+}
+
+fn config(k: u32) -> ObjectTransmissionInformation {
+    ObjectTransmissionInformation::new(u64::from(k) * u64::from(T), T, 1, 1, 8)
+}
+
+/// L, M and T.
+fn measures(row: Row, k: u32, n: usize) -> [usize; 3] {
+    let [most, _, s, h, _] = row.map(|x| x as usize);
+    [most + s + h, s + h + most - k as usize + n, T.into()]
+}
+
+/// All three give the same symbols, else no time means anything. Returns what the plain elimination did on symbols: sums, sums with products, products.
+fn agree(block: &Block, tables: &[u32]) -> [u64; 3] {
+    let (mut ours, mut theirs) = (block.lent.clone(), block.lent.clone());
+    let code = archive::solve(block.row, tables, block.came(), &mut ours);
+    let (plain, operations) = plain::solve(block.row, tables, block.came(), &mut theirs, OURS);
+    assert!(code == 0 && plain == 0 && ours == theirs, "both solve, and leave the same");
+    let decoded = SourceBlockDecoder::new(0, &config(block.k), block.data.len() as u64).decode(block.packets.clone());
+    assert!(decoded.as_ref() == Some(&block.data), "the crate decodes the block");
+    assert!(block.rebuilt(tables, &ours.out) == block.data, "the source symbols are encodings of ours");
+    operations
+}
+
+/// The best times of one call, of many that are taken in turns so that all see the same machine.
+struct Times {
+    ours: f64,
+    plain: f64,
+    decoder: f64,
+    /// Of the encodings that rebuild the source symbols out of ours.
+    rebuild: f64,
+}
+
+fn times(block: &Block, tables: &[u32]) -> Times {
+    let (mut ours, mut theirs) = (block.lent.clone(), block.lent.clone());
+    let mut best = [f64::MAX; 4];
+    for _ in 0..(20_000 / block.k).clamp(60, 400) {
+        let turn = [
+            timed(1, &mut || assert!(archive::solve(block.row, tables, black_box(block.came()), black_box(&mut ours)) == 0)),
+            timed(1, &mut || assert!(plain::solve(block.row, tables, black_box(block.came()), black_box(&mut theirs), OURS).0 == 0)),
+            block.decoded(),
+            timed(1, &mut || drop(black_box(block.rebuilt(tables, black_box(&block.lent.out))))),
+        ];
+        best = std::array::from_fn(|i| best[i].min(turn[i]));
+    }
+    let [ours, plain, decoder, rebuild] = best;
+    Times { ours, plain, decoder, rebuild }
+}
+
+/// What the plain elimination did, held to the bars of the count, and the memory that a call of ours takes.
+fn told(block: &Block, [sums, fused, scaled]: [u64; 3]) {
+    let all = sums + fused + scaled;
+    let bar = match block.k {
+        100 => Some(3_700),
+        500 => Some(23_000),
+        _ => None,
+    };
+    let bar = bar.map_or(String::new(), |b| format!(" (at most {b}){}", if all <= b { "" } else { ": MISSED" }));
+    println!("{:<34} {all} operations on symbols{bar}: {sums} sums, {fused} with products, {scaled} products", "");
+    let [l, m, t] = measures(block.row, block.k, block.esis.len());
+    let kib = |bytes: usize| bytes.div_ceil(1024);
+    let (rows, values, out, pivots) = (kib(m * l), kib(m * t), kib(l * t), kib(2 * 65_535));
+    println!("{:<34} {} KiB of memory: rows {rows}, values {values}, out {out}, pivots {pivots}", "", rows + values + out + pivots);
+}
+
+pub fn run() {
+    let tables = published();
+    let mut random = Random::new(3);
+    let mut growth = vec![];
+    for k in [10, 50, 100, 250, 500] {
+        let block = Block::new(&mut random, k);
+        let operations = agree(&block, &tables);
+        let Times { ours, plain, decoder, rebuild } = times(&block, &tables);
+        let work = format!("solve, K = {k}, T = {T}");
+        line(&work, "plain Rust", ours / plain, Some(1.2));
+        line(&work, "the crate's decoder", ours / decoder, (k >= 100).then_some(4.0));
+        line("with the source symbols rebuilt", "the crate's decoder", (ours + rebuild) / decoder, None);
+        told(&block, operations);
+        growth.push(format!("{:.2} at K = {k}", ours / decoder));
+    }
+    println!("solve over the crate's decoder: {}", growth.join(", "));
+}

@@ -1,0 +1,334 @@
+//! Solving and display: blocks that the crate encoded, made-up systems against the harness's own elimination, and damaged calls.
+use differential::archive::{self, Arrived, Row, Stores};
+use differential::report::Report;
+use differential::rows::{self, is_prime, sizes};
+use differential::system::{self, Verdict};
+use differential::{Random, values};
+use raptorq::{EncodingPacket, ObjectTransmissionInformation, SourceBlockDecoder, SourceBlockEncoder};
+use raptorq_lent::rng::lent::published;
+
+/// Stores with room for the call and up to four places more, of any content.
+fn stores(random: &mut Random, row: Row, count: u32, t: u16, n: usize) -> Stores {
+    let [k, _, s, h, _] = row.map(|x| x as usize);
+    let (l, m, t) = (k + s + h, s + h + k - count as usize + n, usize::from(t));
+    let mut more = |n: usize| n + random.below(5) as usize;
+    let (rows, values, out, shortfall) = (more(m * l), more(m * t), more(l * t), more(1));
+    Stores { rows: random.bytes(rows), values: random.bytes(values), out: random.bytes(out), shortfall: (0..shortfall).map(|_| random.word()).collect() }
+}
+
+/// That a call answered by this verdict and left all four stores as document 01 says, down to the last byte.
+fn as_told(verdict: &Verdict, code: u32, before: &Stores, after: &Stores, [m, l, t]: [usize; 3]) -> bool {
+    let mut right = before.clone();
+    right.rows[..m * l].fill(0);
+    right.values[..m * t].fill(0);
+    let expected = match verdict {
+        Verdict::Solved(set) => {
+            right.out[..l * t].copy_from_slice(set);
+            0
+        }
+        Verdict::Contradiction => 100,
+        Verdict::Open(lack) => {
+            right.shortfall[0] = *lack;
+            101
+        }
+    };
+    code == expected && *after == right
+}
+
+/// What the harness makes of the system of a call, and its M, L and T. `fixed` are the rows whose symbols are 0.
+fn judged(row: Row, tables: &[u32], came: Arrived, fixed: &[Vec<u8>]) -> (Verdict, [usize; 3]) {
+    let (l, t) = (fixed[0].len(), usize::from(came.t));
+    let mut equations: Vec<Vec<u8>> = fixed.iter().map(|r| [&r[..], &vec![0; t]].concat()).collect();
+    let arrivals = came.esis.iter().zip(came.symbols.chunks(t)).map(|(e, symbol)| [&system::sent(row, tables, came.count, *e)[..], symbol].concat());
+    equations.extend(arrivals);
+    let m = equations.len();
+    (system::verdict(equations, l), [m, l, t])
+}
+
+/// A call of ours beside it: the verdict, whether ours is the same in answer and memory, and what it left.
+fn solved(random: &mut Random, row: Row, tables: &[u32], came: Arrived, fixed: &[Vec<u8>]) -> (Verdict, bool, Stores) {
+    let (verdict, measures) = judged(row, tables, came, fixed);
+    let before = stores(random, row, came.count, came.t, came.esis.len());
+    let mut lent = before.clone();
+    let code = archive::solve(row, tables, came, &mut lent);
+    let same = as_told(&verdict, code, &before, &lent, measures);
+    (verdict, same, lent)
+}
+
+fn kind(verdict: &Verdict) -> &'static str {
+    match verdict {
+        Verdict::Solved(_) => "systems solved",
+        Verdict::Contradiction => "contradictions",
+        Verdict::Open(_) => "systems open",
+    }
+}
+
+/// `n` of the packets, in any order.
+fn some(random: &mut Random, mut packets: Vec<EncodingPacket>, n: usize) -> Vec<EncodingPacket> {
+    for i in 0..n {
+        let j = i + random.below((packets.len() - i) as u64) as usize;
+        packets.swap(i, j);
+    }
+    packets.truncate(n);
+    packets
+}
+
+/// A block that the crate encoded, of which k + extra packets came.
+fn real(report: &mut Report, random: &mut Random, k: u32, extra: i64) {
+    let tables = published();
+    let t = if random.below(20) == 0 { 41 + random.below(260) as u16 } else { 1 + random.below(40) as u16 };
+    let data = random.bytes(k as usize * usize::from(t));
+    let config = ObjectTransmissionInformation::new(data.len() as u64, t, 1, 1, 1);
+    let encoder = SourceBlockEncoder::new(0, &config, &data);
+    let row = *rows::published().iter().find(|r| r[0] >= k).unwrap();
+    let first = if random.below(2) == 0 { 0 } else { random.below(100_000) as u32 };
+    let sent: Vec<_> = encoder.source_packets().into_iter().chain(encoder.repair_packets(first, k + 10)).collect();
+    let packets = some(random, sent, (i64::from(k) + extra).max(0) as usize);
+    let (esis, symbols): (Vec<u32>, Vec<Vec<u8>>) = packets.iter().map(|p| (p.payload_id().encoding_symbol_id(), p.data().to_vec())).unzip();
+    let symbols = symbols.concat();
+    let came = Arrived { count: k, t, esis: &esis, symbols: &symbols };
+    let (verdict, same, lent) = solved(random, row, &tables, came, &system::fixed(row, &tables, k));
+    let decoded = SourceBlockDecoder::new(0, &config, data.len() as u64).decode(packets);
+    let agrees = match &verdict {
+        Verdict::Solved(set) => {
+            let slab = &encoder.intermediate_symbols;
+            let theirs: Vec<u8> = (0..slab.len()).flat_map(|i| slab.get(i).to_vec()).collect();
+            *set == theirs && decoded.as_ref() == Some(&data) && rebuilt(row, &tables, k, t, &lent.out) == Some(data)
+        }
+        Verdict::Contradiction => false,
+        Verdict::Open(_) => decoded.is_none(),
+    };
+    report.of(kind(&verdict), same && agrees, || format!("a block of {k}, T {t}, ESIs {esis:?}, symbols {symbols:?}"));
+}
+
+/// The source symbols, from our intermediate symbols by our encoding.
+fn rebuilt(row: Row, tables: &[u32], k: u32, t: u16, set: &[u8]) -> Option<Vec<u8>> {
+    let mut block = vec![];
+    for esi in 0..k {
+        let mut symbol = vec![0; t.into()];
+        archive::encode(row, tables, k, t, esi, set, &mut symbol).ok()?;
+        block.extend(symbol);
+    }
+    Some(block)
+}
+
+/// A row with L below 80 that is accepted.
+fn small_row(random: &mut Random) -> Row {
+    loop {
+        let [k, s, h] = [1 + random.below(45) as u32, 3 + 2 * random.below(6) as u32, 2 + random.below(12) as u32];
+        let w = s + 1 + random.below(u64::from(k + h)) as u32;
+        let row = [k, random.below(65536) as u32, s, h, w];
+        if is_prime(w) && k + s + h < 80 && sizes(row).is_some() {
+            return row;
+        }
+    }
+}
+
+fn any_tables(random: &mut Random) -> Vec<u32> {
+    (0..1024).map(|_| random.word() as u32).collect()
+}
+
+/// ESIs of one call: of any size, source and repair, some twice; of a number around what is needed, or much less, or none.
+fn any_esis(random: &mut Random, k: u32, wanted: usize) -> Vec<u32> {
+    let n = match random.below(6) {
+        0 => random.below(wanted as u64 + 1) as usize,
+        1 => random.below(4) as usize,
+        2 => wanted + random.below(12) as usize,
+        _ => (wanted + 2 + random.below(3) as usize).saturating_sub(random.below(4) as usize),
+    };
+    let mut esis: Vec<u32> = vec![];
+    for _ in 0..n {
+        let again = random.below(12) == 0 && !esis.is_empty();
+        esis.push(match random.below(4) {
+            _ if again => esis[random.below(esis.len() as u64) as usize],
+            0 => random.below(u64::from(k)) as u32,
+            1 => random.below(1 << 24) as u32,
+            _ => random.below(u64::from(k) + 60) as u32,
+        });
+    }
+    esis
+}
+
+/// Symbols of one fitting set, some of them damaged; or any bytes.
+fn any_symbols(random: &mut Random, row: Row, tables: &[u32], count: u32, t: usize, esis: &[u32], set: &[u8]) -> Vec<u8> {
+    if random.below(8) == 0 {
+        return random.bytes(esis.len() * t);
+    }
+    let mut symbols: Vec<u8> = esis.iter().flat_map(|e| system::made(&system::sent(row, tables, count, *e), set, t)).collect();
+    if random.below(3) == 0 && !symbols.is_empty() {
+        let at = random.below(symbols.len() as u64) as usize;
+        symbols[at] ^= random.byte();
+    }
+    symbols
+}
+
+/// Systems of one made-up row with made-up tables.
+fn made_up(report: &mut Report, random: &mut Random) {
+    let (row, tables) = (small_row(random), any_tables(random));
+    let count = if random.below(3) == 0 { row[0] } else { 1 + random.below(u64::from(row[0])) as u32 };
+    let fixed = system::fixed(row, &tables, count);
+    let l = fixed[0].len();
+    for _ in 0..6 {
+        let t = 1 + random.below(9) as usize;
+        let set = system::fitting(fixed.clone(), l, t, random);
+        let esis = any_esis(random, count, count as usize);
+        let symbols = any_symbols(random, row, &tables, count, t, &esis, &set);
+        let came = Arrived { count, t: t as u16, esis: &esis, symbols: &symbols };
+        let (verdict, same, _) = solved(random, row, &tables, came, &fixed);
+        report.of(kind(&verdict), same, || format!("{row:?}, tables {tables:?}, {came:?}, which is {verdict:?}"));
+    }
+}
+
+/// A call that may be refused, whole.
+#[derive(Clone, Debug)]
+struct Call {
+    row: Row,
+    tables: Vec<u32>,
+    count: u32,
+    t: u16,
+    esis: Vec<u32>,
+    symbols: Vec<u8>,
+    lent: Stores,
+}
+
+/// Document 01's refusals in their order: 4, 5, 9, 10, 8.
+fn refusal(c: &Call) -> Option<u32> {
+    let Some([l, _, _, _]) = sizes(c.row) else { return Some(4) };
+    let (n, t, l) = (c.esis.len(), usize::from(c.t), l as usize);
+    if c.tables.len() != 1024 {
+        Some(5)
+    } else if !(1..=c.row[0]).contains(&c.count) || n > 65535 || c.esis.iter().any(|e| *e >= 1 << 24) {
+        Some(9)
+    } else if t == 0 || c.symbols.len() != n * t {
+        Some(10)
+    } else {
+        let m = l - c.count as usize + n;
+        let short = c.lent.rows.len() < m * l || c.lent.values.len() < m * t || c.lent.out.len() < l * t || c.lent.shortfall.is_empty();
+        short.then_some(8)
+    }
+}
+
+/// Something about a call that is not as it should be, or just is.
+fn damage(random: &mut Random, c: &mut Call) {
+    let shorter = |random: &mut Random, n: usize| (n + 2).saturating_sub(1 + random.below(9) as usize);
+    match random.below(12) {
+        0 => c.row[random.below(5) as usize] = random.word() as u32 >> random.below(32),
+        1 => c.row[random.below(5) as usize] ^= 1,
+        2 => c.tables.resize([0, 1023, 1025, 1024][random.below(4) as usize], 1),
+        3 => c.count = [0, c.row[0].wrapping_add(1), c.row[0], u32::MAX][random.below(4) as usize],
+        4 if !c.esis.is_empty() => {
+            let at = random.below(c.esis.len() as u64) as usize;
+            c.esis[at] = [1 << 24, (1 << 24) - 1, u32::MAX][random.below(3) as usize];
+        }
+        5 if random.below(50) == 0 => c.esis.resize(65535 + random.below(2) as usize, 3),
+        6 => c.t = [0, c.t.wrapping_add(1), 65535][random.below(3) as usize],
+        7 => c.symbols.resize(shorter(random, c.symbols.len()), 0),
+        8 => c.lent.rows.resize(shorter(random, c.lent.rows.len()), 7),
+        9 => c.lent.values.resize(shorter(random, c.lent.values.len()), 7),
+        10 => c.lent.out.resize(shorter(random, c.lent.out.len()), 7),
+        _ => c.lent.shortfall.truncate(random.below(2) as usize),
+    }
+}
+
+/// Calls with one to three damages; the whole memory stays where they are refused, inputs too.
+fn refused(report: &mut Report, random: &mut Random) {
+    let row = small_row(random);
+    let count = 1 + random.below(u64::from(row[0])) as u32;
+    let esis = any_esis(random, count, count as usize);
+    let t = 1 + random.below(5) as u16;
+    let symbols = random.bytes(esis.len() * usize::from(t));
+    let mut lent = stores(random, row, count, t, esis.len());
+    if random.below(2) == 0 {
+        // Not one place more than the call needs.
+        let [k, _, s, h, _] = row.map(|x| x as usize);
+        let (l, m, t) = (k + s + h, s + h + k - count as usize + esis.len(), usize::from(t));
+        lent.rows.truncate(m * l);
+        lent.values.truncate(m * t);
+        lent.out.truncate(l * t);
+        lent.shortfall.truncate(1);
+    }
+    let mut call = Call { row, tables: any_tables(random), count, t, esis, symbols, lent };
+    for _ in 0..=random.below(3) {
+        damage(random, &mut call);
+    }
+    let kept = call.clone();
+    let came = Arrived { count: call.count, t: call.t, esis: &call.esis, symbols: &call.symbols };
+    let code = archive::solve(call.row, &call.tables, came, &mut call.lent);
+    let inputs = call.tables == kept.tables && call.esis == kept.esis && call.symbols == kept.symbols;
+    match refusal(&kept) {
+        Some(n) => report.of("solves refused", code == n && inputs && call.lent == kept.lent, || format!("{n} of {kept:?}")),
+        None => {
+            let (verdict, measures) = judged(kept.row, &kept.tables, came, &system::fixed(kept.row, &kept.tables, kept.count));
+            report.of(kind(&verdict), as_told(&verdict, code, &kept.lent, &call.lent, measures) && inputs, || format!("taken: {kept:?}"));
+        }
+    }
+}
+
+/// Document 01's display: the refusal, or the store and the place.
+fn displayed(came: Arrived, rebuilt: usize, i: u32, room: usize) -> Result<(usize, usize), u32> {
+    let (n, t) = (came.esis.len(), usize::from(came.t));
+    if !(1..=56403).contains(&came.count) || n > 65535 || came.esis.iter().any(|e| *e >= 1 << 24) {
+        Err(9)
+    } else if t == 0 || came.symbols.len() != n * t {
+        Err(10)
+    } else if rebuilt < came.count as usize * t || room < 2 {
+        Err(8)
+    } else if i >= came.count {
+        Err(6)
+    } else {
+        Ok(came.esis.iter().position(|e| *e == i).map_or((1, i as usize * t), |p| (0, p * t)))
+    }
+}
+
+fn display(report: &mut Report, random: &mut Random) {
+    let count = match random.below(40) {
+        0 => [0, 56403, 56404, u32::MAX][random.below(4) as usize],
+        _ => 1 + random.below(30) as u32,
+    };
+    let t = random.below(6) as u16;
+    let near = count.clamp(1, 40);
+    let mut esis: Vec<u32> = (0..random.below(40)).map(|_| random.below(u64::from(near) + 4) as u32).collect();
+    if random.below(12) == 0 && !esis.is_empty() {
+        let at = random.below(esis.len() as u64) as usize;
+        esis[at] = [1 << 24, (1 << 24) - 1][random.below(2) as usize];
+    }
+    if random.below(400) == 0 {
+        esis.resize(65535 + random.below(2) as usize, 1);
+    }
+    let off = |random: &mut Random, n: usize| if random.below(8) == 0 { (n + 1).saturating_sub(random.below(3) as usize) } else { n };
+    let (came_len, built_len) = (off(random, esis.len() * usize::from(t)), count.min(56403) as usize * usize::from(t) + random.below(3) as usize);
+    let (symbols, rebuilt) = (random.bytes(came_len), vec![1; off(random, built_len)]);
+    let came = Arrived { count, t, esis: &esis, symbols: &symbols };
+    let i = random.near(near as usize) as u32;
+    let expected = displayed(came, rebuilt.len(), i, 2);
+    let answer = values(2, |out| archive::display(came, &rebuilt, i, out)).map(|v| (v[0] as usize, v[1] as usize));
+    let inside = answer.is_ok_and(|(store, at)| at + usize::from(t) <= [symbols.len(), rebuilt.len()][store]);
+    let said = || format!("symbol {i} of {count}, T {t}, ESIs {esis:?}, {} and {} bytes", symbols.len(), rebuilt.len());
+    report.of("displays", answer == expected && inside == answer.is_ok(), said);
+    let mut small = [9; 1];
+    let room = random.below(2) as usize;
+    let answer = archive::display(came, &rebuilt, i, &mut small[..room]);
+    report.of("displays without room", answer.err() == displayed(came, rebuilt.len(), i, room).err() && small == [9], said);
+}
+
+pub fn run(count: u64, seed: u64) -> bool {
+    let mut report = Report::new("solver");
+    let mut random = Random::new(seed);
+    for turn in 0..count.div_ceil(1_000_000) {
+        for k in 1..=300 {
+            for extra in [0, 1, 2, 3, -1 - (turn as i64 + i64::from(k)) % 3] {
+                real(&mut report, &mut random, k, extra);
+            }
+        }
+    }
+    for _ in 0..count / 50 {
+        made_up(&mut report, &mut random);
+    }
+    for _ in 0..count / 10 {
+        refused(&mut report, &mut random);
+    }
+    for _ in 0..count / 10 {
+        display(&mut report, &mut random);
+    }
+    report.close()
+}
