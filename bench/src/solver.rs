@@ -81,29 +81,25 @@ fn agree(block: &Block, tables: &[u32]) -> [u64; 3] {
     operations
 }
 
-/// The best times of one call, of many that are taken in turns so that all see the same machine.
-struct Times {
-    ours: f64,
-    plain: f64,
-    decoder: f64,
-    /// Of the encodings that rebuild the source symbols out of ours.
-    rebuild: f64,
+fn median(mut numbers: Vec<f64>) -> f64 {
+    numbers.sort_by(f64::total_cmp);
+    numbers[numbers.len() / 2]
 }
 
-fn times(block: &Block, tables: &[u32]) -> Times {
+/// Ours over plain Rust, ours over the crate's decoder, and ours with the encodings that rebuild the source symbols over the decoder. In each turn
+/// all are timed one after the other, so that they see the same machine; the median of the turns counts.
+fn ratios(block: &Block, tables: &[u32]) -> [f64; 3] {
     let (mut ours, mut theirs) = (block.lent.clone(), block.lent.clone());
-    let mut best = [f64::MAX; 4];
-    for _ in 0..(20_000 / block.k).clamp(60, 400) {
-        let turn = [
-            timed(1, &mut || assert!(archive::solve(block.row, tables, black_box(block.came()), black_box(&mut ours)) == 0)),
-            timed(1, &mut || assert!(plain::solve(block.row, tables, black_box(block.came()), black_box(&mut theirs), OURS).0 == 0)),
-            block.decoded(),
-            timed(1, &mut || drop(black_box(block.rebuilt(tables, black_box(&block.lent.out))))),
-        ];
-        best = std::array::from_fn(|i| best[i].min(turn[i]));
+    let mut turns = [vec![], vec![], vec![]];
+    for _ in 0..(40_000 / block.k).clamp(150, 800) {
+        let solve = timed(1, &mut || assert!(archive::solve(block.row, tables, black_box(block.came()), black_box(&mut ours)) == 0));
+        let plain = timed(1, &mut || assert!(plain::solve(block.row, tables, black_box(block.came()), black_box(&mut theirs), OURS).0 == 0));
+        let decoder = block.decoded();
+        let rebuild = timed(1, &mut || drop(black_box(block.rebuilt(tables, black_box(&block.lent.out)))));
+        let turn = [solve / plain, solve / decoder, (solve + rebuild) / decoder];
+        turns.iter_mut().zip(turn).for_each(|(all, ratio)| all.push(ratio));
     }
-    let [ours, plain, decoder, rebuild] = best;
-    Times { ours, plain, decoder, rebuild }
+    turns.map(median)
 }
 
 /// What the plain elimination did, held to the bars of the count, and the memory that a call of ours takes.
@@ -129,13 +125,13 @@ pub fn run() {
     for k in [10, 50, 100, 250, 500] {
         let block = Block::new(&mut random, k);
         let operations = agree(&block, &tables);
-        let Times { ours, plain, decoder, rebuild } = times(&block, &tables);
+        let [plain, decoder, rebuilt] = ratios(&block, &tables);
         let work = format!("solve, K = {k}, T = {T}");
-        line(&work, "plain Rust", ours / plain, Some(1.2));
-        line(&work, "the crate's decoder", ours / decoder, (k >= 100).then_some(4.0));
-        line("with the source symbols rebuilt", "the crate's decoder", (ours + rebuild) / decoder, None);
+        line(&work, "plain Rust", plain, Some(1.2));
+        line(&work, "the crate's decoder", decoder, (k >= 100).then_some(4.0));
+        line("with the source symbols rebuilt", "the crate's decoder", rebuilt, None);
         told(&block, operations);
-        growth.push(format!("{:.2} at K = {k}", ours / decoder));
+        growth.push(format!("{decoder:.2} at K = {k}"));
     }
     println!("solve over the crate's decoder: {}", growth.join(", "));
 }

@@ -4,7 +4,7 @@ use mathlib.Core.Path.{refl, sym, ap, _∙_}
 use borrow.Author.Needs.{needs}
 use lib.ListN.{length}
 use denote.Ref.{now}
-use Rattle.field.specs.Answer.{given, refused, numberOf}
+use Rattle.field.specs.Answer.{given, refused}
 use Rattle.solver.specs.Display.{arrived, rebuilt, outcome}
 use Rattle.exports.proofs.Solving.{called-place}
 use Rattle.exports.proofs.blocks.spoonripple_display.Statement.{statement}

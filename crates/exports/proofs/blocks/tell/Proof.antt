@@ -1,6 +1,6 @@
 -- `exports::blocks::tell` meets its contract, verdict by verdict.
 -- Assumes nothing.
-use mathlib.Core.Path.{refl, sym}
+use mathlib.Core.Path.{refl}
 use native.Mathlib.Omega.{arith}
 use borrow.Author.Needs.{needs}
 use Rattle.field.proofs.Writing.{written-none, written-more}
