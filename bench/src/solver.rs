@@ -9,7 +9,7 @@ use raptorq_lent::rng::lent::published;
 use std::hint::black_box;
 
 /// How ours goes (crates/solver/src/beneath/filling.rt and eliminate.rt): the plain elimination takes the rows in the same order.
-const OURS: Plan = Plan { order: Order::AsTheyCame, way: Way::AtOnce };
+const OURS: Plan = Plan { order: Order::ByDegree, way: Way::Back };
 
 const T: u16 = 1024;
 
