@@ -87,6 +87,22 @@ copies-right (suc n) a b c h =
     ∙ doubled-plus (copies n a (b / 2)) (copies n a (c / 2)) (copies-lt n a (b / 2) h) (copies-lt n a (c / 2) h))
     ∙ swap (a * (b % 2)) (a * (c % 2)) (doubled (copies n a (b / 2))) (doubled (copies n a (c / 2)))
 
+doubled-zero : doubled 0 ≡ 0
+unfolding doubled
+doubled-zero = refl
+
+-- doubling goes into the copies
+pub copies-doubled : (n a b : ℕ) → a < 256 → doubled (copies n a b) ≡ copies n (doubled a) b
+unfolding copies
+copies-doubled zero a b h = doubled-zero
+copies-doubled (suc n) a b h =
+    doubled-plus (a * (b % 2)) (doubled (copies n a (b / 2)))
+    (bit (λ (x : ℕ). a * x < 256) (simp mul-zero (omega arith)) (simp mul-one h) (b % 2) (omega arith))
+    (doubled-lt (copies n a (b / 2)) (copies-lt n a (b / 2) h))
+    ∙ ap₂ plus
+    (bit (λ (x : ℕ). doubled (a * x) ≡ doubled a * x) (rw (mul-zero a, mul-zero (doubled a)) doubled-zero) (rw (mul-one a, mul-one (doubled a))) (b % 2) (omega arith))
+    (ap doubled (copies-doubled n a (b / 2) h))
+
 copies-mod : (n a b : ℕ) → copies n a (b % 2 ^ n) ≡ copies n a b
 unfolding copies
 copies-mod zero a b = refl

@@ -8,6 +8,7 @@ use native.Mathlib.Nat.{mul-le-mul-right}
 use native.Mathlib.Omega.{arith}
 use native.Mathlib.Decide.{ℕ-discrete, decLt}
 use borrow.Author.Tests.{eq-eqb, ne-eqb}
+use lib.ListN.{length, getD}
 use Rattle.field.specs.Octet.{plus, doubled, copies, times, squares, inverse, over}
 use Rattle.field.specs.Answer.{given, refused, divided}
 use Rattle.field.specs.Runs.{Written, added, fused, scaled}
@@ -37,6 +38,12 @@ rows-apart n w i k hi hk ne l = record { to-in = row-in n w i hi l; from-in = ro
 -- nor do they the other way round, in a store as long
 pub apart-back : {len long w i k : ℕ} → Apart len w i k → long ≡ len → Apart long w k i
 apart-back {len} {long} {w} {i} {k} a e = record { to-in = (let q = a .from-in in omega arith); from-in = (let q = a .to-in in omega arith); apart = ⊎-elim inr inl (a .apart) }
+
+-- a part that lies apart from what was written so far is as it was
+pub apart-still : {f : ℕ → ℕ} {xs ys : List ℕ} {w to from n : ℕ} → Written f xs ys to n → Apart (length xs) w to from → n ≤ w → (c : ℕ) → c < w
+    → getD ys (from + c) 0 ≡ getD xs (from + c) 0
+apart-still {f} {xs} {ys} {w} {to} {from} {n} s a l c h =
+    ⊎-elim (λ (p : to + w ≤ from). s .high (from + c) (omega arith)) (λ (p : from + w ≤ to). s .low (from + c) (omega arith)) (a .apart)
 
 -- one place more that is 0
 pub zeros-more : (f : ℕ → ℕ) {from x : ℕ} → ((k : ℕ) → k < x → from ≤ k → f k ≡ 0) → f x ≡ 0 → (k : ℕ) → k < x + 1 → from ≤ k → f k ≡ 0

@@ -1,6 +1,7 @@
 // The elimination in two lent stores: the coefficients of the equations, row after row, and their symbols. Each function here asks that its
 // places lie inside.
 pub mod call;
+pub mod coefficients;
 pub mod eliminate;
 pub mod esis;
 pub mod filling;

@@ -8,11 +8,12 @@ ghost use Rattle.field.specs.Runs.{Apart};
 ghost use Rattle.linear.specs.Bytes.{cell};
 ghost use Rattle.linear.specs.Rows.{RowAdded, RowTimes, RowCopied};
 ghost use Rattle.solver.specs.Steps.{FirstOther, Moved};
+use crate::beneath::coefficients;
 use field::octet;
 use slab::beneath::symbols;
 
-// f times row k goes onto row i. Most factors are 1, and a sum is some twenty times as fast as a sum with products.
-fn add_row(store: &mut [u8], w: usize, i: usize, k: usize, f: u8)
+// f times symbol k goes onto symbol i.
+fn add_symbol(store: &mut [u8], w: usize, i: usize, k: usize, f: u8)
     requires { ⌜ Apart (length (now store)) w (i * w) (k * w) ⌝ }
     ensures { λ _. ⌜ RowAdded w i k f (now (store .entry)) (now (store .exit)) ⌝ }
 {
@@ -99,8 +100,8 @@ pub fn take_off(
     if f == 0 {
         return;
     }
-    add_row(rows, l, i, k, f);
-    add_row(values, t, i, k, f);
+    coefficients::add(rows, l, i, k, f);
+    add_symbol(values, t, i, k, f);
 }
 
 // Row i of both stores is multiplied by the inverse of what it has in column c.

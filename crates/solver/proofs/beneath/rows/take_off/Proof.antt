@@ -19,11 +19,11 @@ returns c =
     let s = c .before .before .before .before .args in
     (row-added-none (s .i) (s .k) (c .if1 .taken), row-added-none (s .i) (s .k) (c .if1 .taken))
 
-add-row-requires : tie.Need-add-row-requires
-add-row-requires c κs = search needs
+add-requires : tie.Need-add-requires
+add-requires c κs = search needs
 
-add-row-requires-2 : tie.Need-add-row-requires-2
-add-row-requires-2 c κs = search needs
+add-symbol-requires : tie.Need-add-symbol-requires
+add-symbol-requires c κs = search needs
 
 same-length : tie.Need-same-length
 same-length c = search needs
@@ -42,8 +42,8 @@ take-off-spec =
     add-f
     slice-read-f
     returns
-    add-row-requires
-    add-row-requires-2
+    add-requires
+    add-symbol-requires
     same-length
     same-length-2
     returns-2)

@@ -1,11 +1,11 @@
--- `solver::beneath::rows::add_row` meets its contract: a factor 1 asks for no product.
+-- `solver::beneath::rows::add_symbol` meets its contract: a factor 1 asks for no product.
 -- Assumes nothing.
 use native.Mathlib.Omega.{arith}
 use borrow.Author.Needs.{needs}
 use Rattle.linear.proofs.Rows.{row-added-once}
 use Rattle.solver.proofs.Rows.{sum-rows, fused-rows}
-use Rattle.solver.proofs.beneath.rows.add_row.Statement.{statement}
-use Rattle.solver.proofs.beneath.rows.add_row.Tie as tie
+use Rattle.solver.proofs.beneath.rows.add_symbol.Statement.{statement}
+use Rattle.solver.proofs.beneath.rows.add_symbol.Tie as tie
 
 mul-to : tie.Need-mul-to
 mul-to c = search needs
@@ -35,8 +35,8 @@ returns-2 c =
     let s = c .before .before .before .before .before .before .args in
     fused-rows (s .w) (s .i) (s .k) (s .f) (c .before .before .fma .ensures)
 
-pub add-row-spec : {M : Type 1} → statement M
-add-row-spec =
+pub add-symbol-spec : {M : Type 1} → statement M
+add-symbol-spec =
     tie.close
     (tie.spec
     mul-to
