@@ -49,11 +49,12 @@ fn double(x: u8) -> u8 {
     x << 1 ^ if x & 128 != 0 { 29 } else { 0 }
 }
 
-/// By doubling, which the compiler makes vector code of: faster than a table of products.
+/// Each bit of x takes a doubled copy of c: the compiler works the copies out once a run and makes vector code of the rest, which is faster than a
+/// table of products.
 fn times(c: u8, x: u8) -> u8 {
-    let (mut sum, mut copy) = (0, x);
+    let (mut sum, mut copy) = (0, c);
     for bit in 0..8 {
-        sum ^= copy & 0u8.wrapping_sub(c >> bit & 1);
+        sum ^= copy & 0u8.wrapping_sub(x >> bit & 1);
         copy = double(copy);
     }
     sum

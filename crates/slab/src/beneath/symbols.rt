@@ -5,9 +5,9 @@ ghost use lib.ListN.{length};
 ghost use Rattle.field.specs.Runs.{Apart, Written, added, fused, part, scaled};
 
 fn chunk_len(left: usize) -> usize
-    ensures { λ r. ⌜ (r ≤ 256) × (r ≤ left) × (0 < left → 0 < r) ⌝ }
+    ensures { λ r. ⌜ (r ≤ 1024) × (r ≤ left) × (0 < left → 0 < r) ⌝ }
 {
-    if left < 256 { left } else { 256 }
+    if left < 1024 { left } else { 1024 }
 }
 
 // The symbol at `to` becomes its sum with the symbol at `from`.
@@ -16,7 +16,7 @@ pub fn add(slab: &mut [u8], t: usize, to: usize, from: usize)
     ensures { λ _. ⌜ Written (added (now (slab .entry)) to (part (now (slab .entry)) from t)) (now (slab .entry)) (now (slab .exit)) to t ⌝ }
 {
     let end = to + t;
-    let mut chunk = [0u8; 256];
+    let mut chunk = [0u8; 1024];
     let mut at = 0;
     while at < t {
         let n = chunk_len(t - at);
@@ -43,7 +43,7 @@ pub fn fma(slab: &mut [u8], t: usize, to: usize, from: usize, c: u8)
     ensures { λ _. ⌜ Written (fused (now (slab .entry)) to c (part (now (slab .entry)) from t)) (now (slab .entry)) (now (slab .exit)) to t ⌝ }
 {
     let end = to + t;
-    let mut chunk = [0u8; 256];
+    let mut chunk = [0u8; 1024];
     let mut at = 0;
     while at < t {
         let n = chunk_len(t - at);

@@ -14,7 +14,7 @@ use Rattle.slab.proofs.beneath.symbols.add.Statement.{statement}
 use Rattle.slab.proofs.beneath.symbols.add.Tie as tie
 
 abbrev Inv-loop : tie.InvT-loop
-Inv-loop slab₀ t to from end chunk₀ at₀ slab chunk at = (at ≤ t) × (length chunk ≡ 256) × Written (added slab₀ to (part slab₀ from t)) slab₀ slab to at
+Inv-loop slab₀ t to from end chunk₀ at₀ slab chunk at = (at ≤ t) × (length chunk ≡ 1024) × Written (added slab₀ to (part slab₀ from t)) slab₀ slab to at
 
 abbrev μ-loop : tie.MeasureT-loop
 μ-loop slab₀ t to from end chunk₀ at₀ slab chunk at = t - at
