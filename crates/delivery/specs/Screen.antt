@@ -1,0 +1,64 @@
+-- When a delivery is taken: the first thing wrong with it, in the order in which its bytes are read.
+-- Assumes nothing.
+use mathlib.Core.Bool.{Bool, true, not}
+use mathlib.Core.List.{List}
+use Prim.Native.Nat.{ℕ, zero, suc, _+_, _-_, _%_}
+use lib.Dec.{eqb, ltb}
+use lib.ListN.{length}
+use Rattle.field.specs.Answer.{Outcome, given, refused, unless, before, numberOf}
+use Rattle.field.specs.Choice.{both}
+use Rattle.headers.specs.Headers.{checked, idAt}
+use Rattle.headers.specs.Row.{obeys, lOf}
+use Rattle.headers.specs.declared.row.Row.{Row}
+use Rattle.headers.specs.declared.transmission.ObjectTransmissionInformation.{ObjectTransmissionInformation}
+use Rattle.solver.specs.System.{fixed}
+use Rattle.delivery.specs.Layout.{infoOf, rowAt, tOf, kOf, countOf, packet, packetAt}
+use Rattle.delivery.specs.declared.screen.Stop.{Stop}
+use Rattle.delivery.specs.declared.screen.Stop.the-variants as Stops
+use Rattle.delivery.specs.declared.screen.Screened.{Screened}
+use Rattle.delivery.specs.declared.screen.Screened.the-variants as Screeneds
+
+-- document 01's numbers, and three above them for what this program alone does not take
+abbrev pub stopOf : Stop → ℕ
+stopOf (Stops.Refused why) = numberOf why
+stopOf Stops.TooLarge = 101
+stopOf Stops.SeveralBlocks = 102
+stopOf Stops.OtherBlock = 103
+
+abbrev pub screened : Screened → Outcome (Unit {0})
+screened Screeneds.Passed = given tt
+screened (Screeneds.Stopped why) = refused (stopOf why)
+
+-- one block, of one sub-block; a symbol size
+abbrev pub shapeScreen : ObjectTransmissionInformation → Outcome (Unit {0})
+shapeScreen o =
+    unless (not (eqb (o .«num_source_blocks») 1)) 102 (unless (not (eqb (o .«num_sub_blocks») 1)) 102 (unless (eqb (o .«symbol_size») 0) 10 (given tt)))
+
+-- the rules of document 01, and these
+abbrev pub infoScreen : ObjectTransmissionInformation → Outcome (Unit {0})
+infoScreen o = before (checked o) (shapeScreen o)
+
+-- the rules of a row, K from 1 to K', and what the stores of this program hold
+abbrev pub rowScreen : Row → ℕ → ℕ → Outcome (Unit {0})
+rowScreen r k t =
+    unless (not (obeys r)) 4 (unless (ltb k 1) 9 (unless (ltb (r .k) k) 9 (unless (ltb 1024 t) 101 (unless (ltb 300 (lOf r)) 101 (given tt)))))
+
+-- all of the tables, not too many equations, and whole packets: of `len` bytes, with `fixed` equations beside those of the packets
+abbrev pub lengthScreen : ℕ → ℕ → ℕ → Outcome (Unit {0})
+lengthScreen len t fixed =
+    unless (ltb len 4128) 5 (unless (ltb 360 (fixed + countOf len t)) 101 (unless (not (eqb ((len - 4128) % (t + 4)) 0)) 10 (given tt)))
+
+-- each of the first n packets is of block 0
+unfoldable pub oneBlock : List ℕ → ℕ → ℕ → Bool
+oneBlock d t zero = true
+oneBlock d t (suc n) = both (eqb (idAt (packet d (packetAt t n)) .«source_block_number») 0) (oneBlock d t n)
+
+abbrev pub packetsScreen : List ℕ → Row → ℕ → ℕ → Outcome (Unit {0})
+packetsScreen d r k t =
+    before (lengthScreen (length d) t (fixed r k)) (unless (not (oneBlock d t (countOf (length d) t))) 103 (given tt))
+
+abbrev pub restScreen : List ℕ → ℕ → ℕ → Outcome (Unit {0})
+restScreen d k t = before (rowScreen (rowAt d) k t) (packetsScreen d (rowAt d) k t)
+
+unfoldable pub screen : List ℕ → Outcome (Unit {0})
+screen d = unless (ltb (length d) 32) 8 (before (infoScreen (infoOf d)) (restScreen d (kOf d) (tOf d)))

@@ -1,0 +1,127 @@
+//! `deliver`: see the script beside this folder. The packets are those of the published crate's encoder; the row and the tables are those
+//! that it has. The layout stands in docs/DELIVERY.md.
+use raptorq_lent::rng::lent::published;
+use raptorq_lent::systematic_constants::SYSTEMATIC_INDICES_AND_PARAMETERS as TABLE_2;
+use raptorq_lent::{Encoder, ObjectTransmissionInformation};
+use std::error::Error;
+
+/// A small generator of its own (xorshift64*), so that a seed loses the same packets on every machine.
+struct Random(u64);
+
+impl Random {
+    fn below(&mut self, n: usize) -> usize {
+        self.0 ^= self.0 >> 12;
+        self.0 ^= self.0 << 25;
+        self.0 ^= self.0 >> 27;
+        (self.0.wrapping_mul(0x2545_F491_4F6C_DD1D) % n as u64) as usize
+    }
+}
+
+struct Wish {
+    files: Vec<String>,
+    symbol_size: u16,
+    alignment: u8,
+    lose: usize,
+    repair: u32,
+    first_repair: u32,
+    twice: usize,
+    damage: String,
+    seed: u64,
+}
+
+fn wish() -> Result<Wish, Box<dyn Error>> {
+    let mut w =
+        Wish { files: vec![], symbol_size: 64, alignment: 1, lose: 0, repair: 0, first_repair: 0, twice: 0, damage: "none".into(), seed: 1 };
+    let mut words = std::env::args().skip(1);
+    while let Some(word) = words.next() {
+        if !word.starts_with("--") {
+            w.files.push(word);
+            continue;
+        }
+        let value = words.next().ok_or(format!("{word} needs a value"))?;
+        match word.as_str() {
+            "--symbol-size" => w.symbol_size = value.parse()?,
+            "--align" => w.alignment = value.parse()?,
+            "--lose" => w.lose = value.parse()?,
+            "--repair" => w.repair = value.parse()?,
+            "--first-repair" => w.first_repair = value.parse()?,
+            "--twice" => w.twice = value.parse()?,
+            "--damage" => w.damage = value,
+            "--seed" => w.seed = value.parse()?,
+            _ => return Err(format!("there is no option {word}").into()),
+        }
+    }
+    if w.files.len() != 2 {
+        return Err("it takes FILE and OUT".into());
+    }
+    Ok(w)
+}
+
+/// The packets that arrive: source packets but those lost, repair packets, some of them twice, in an order that the seed gives.
+fn arrivals(w: &Wish, encoder: &Encoder, random: &mut Random) -> Result<Vec<Vec<u8>>, Box<dyn Error>> {
+    let block = &encoder.get_block_encoders()[0];
+    let mut packets = block.source_packets();
+    if w.lose > packets.len() {
+        return Err(format!("the block has only {} source packets", packets.len()).into());
+    }
+    for _ in 0..w.lose {
+        packets.remove(random.below(packets.len()));
+    }
+    packets.extend(block.repair_packets(w.first_repair, w.repair));
+    let mut packets: Vec<Vec<u8>> = packets.iter().map(|p| p.serialize()).collect();
+    for _ in 0..w.twice.min(packets.len()) {
+        packets.push(packets[random.below(packets.len())].clone());
+    }
+    for i in (1..packets.len()).rev() {
+        packets.swap(i, random.below(i + 1));
+    }
+    Ok(packets)
+}
+
+/// What happens to it on the way.
+fn damage(w: &Wish, head: &mut [u8], packets: &mut [Vec<u8>], random: &mut Random) -> Result<(), Box<dyn Error>> {
+    let some = random.below(packets.len().max(1));
+    let last = packets.len().wrapping_sub(1);
+    let at = 4 + random.below(w.symbol_size.into());
+    match w.damage.as_str() {
+        "none" => {}
+        "symbol" => packets[some][at] ^= 1 << random.below(8),
+        "id" => packets[some][3] ^= 1,
+        "block" => packets[some][0] = 1,
+        "end" => {
+            packets[last].pop();
+        }
+        "empty" => head[..5].fill(0),
+        "alignment" => head[11] = 0,
+        "blocks" => head[8] = 2,
+        "row" => head[23] ^= 1,
+        other => return Err(format!("there is no damage {other}").into()),
+    }
+    Ok(())
+}
+
+fn deliver() -> Result<(), Box<dyn Error>> {
+    let w = wish()?;
+    let object = std::fs::read(&w.files[0])?;
+    let k = object.len().div_ceil(w.symbol_size.max(1).into());
+    let row = TABLE_2.iter().find(|row| row.0 as usize >= k).ok_or("one block holds at most 56,403 symbols: take a larger --symbol-size")?;
+    let encoder = Encoder::new(&object, ObjectTransmissionInformation::new(object.len() as u64, w.symbol_size, 1, 1, w.alignment));
+    let mut random = Random(w.seed.wrapping_mul(0x9E37_79B9_7F4A_7C15) | 1);
+    let mut packets = arrivals(&w, &encoder, &mut random)?;
+    let mut out = encoder.get_config().serialize().to_vec();
+    for n in [row.0, row.1, row.2, row.3, row.4].into_iter().chain(published()) {
+        out.extend(n.to_be_bytes());
+    }
+    damage(&w, &mut out, &mut packets, &mut random)?;
+    out.extend(packets.concat());
+    std::fs::write(&w.files[1], &out)?;
+    eprintln!("F {} T {} K {k} K' {}: {} packets, damage: {}, {} bytes", object.len(), w.symbol_size, row.0, packets.len(), w.damage, out.len());
+    Ok(())
+}
+
+fn main() {
+    if let Err(why) = deliver() {
+        eprintln!("deliver: {why}");
+        std::process::exit(2);
+    }
+}
