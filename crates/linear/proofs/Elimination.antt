@@ -6,7 +6,7 @@ use mathlib.Core.List.{List}
 use Prim.Native.Nat.{ℕ, _+_, _*_, _≤_, _<_}
 use native.Mathlib.Nat.{pos-of-ne-zero}
 use native.Mathlib.Omega.{arith}
-use native.Mathlib.Decide.{ℕ-discrete}
+use native.Mathlib.Decide.{ℕ-discrete, decLt}
 use lib.Bits.{xor-lt, xor-self, xor-zero-r}
 use lib.ListN.{length, getD, set}
 use lib.Seq.{getD-set-same, getD-set-other}
@@ -93,6 +93,14 @@ next-pivot {r} q ps h = record { old = λ k l. getD-set-other ps r k q 0 (λ e. 
 
 -- ---- (a), (b): the held rows go off row m, one after the other
 
+-- what holds up to j, and on to x
+on-to : {P : ℕ → Type 0} {p j x : ℕ} → ((k : ℕ) → p ≤ k → k < j → P k) → ((k : ℕ) → j ≤ k → k < x → P k) → (k : ℕ) → p ≤ k → k < x → P k
+on-to {P} {p} {j} {x} o z k b h = go (decLt k j)
+  where
+    go : Dec (k < j) → P k
+    go (yes l) = o k b l
+    go (no l) = z k (omega arith) h
+
 pub sift-begin : {L T m r : ℕ} {pivot : ℕ → ℕ} {a d : List ℕ} → Stepped L T m r pivot a d → Sifted L T m r 0 pivot a d
 sift-begin h = record { stepped = h; gone = λ k b l. absurd (omega arith) }
 
@@ -103,6 +111,11 @@ sift-row {m = m} s hj e sa sd = record {
   stepped = stepped-off (s .stepped) m hj e sa sd (λ h. omega arith) (λ h. absurd (let q = s .stepped .enough in omega arith));
   gone = off-more (s .stepped) m hj e sa sd 0 (s .gone);
 }
+
+-- row m is 0 at the next pivots already
+pub sift-past : {L T m r j x : ℕ} {pivot : ℕ → ℕ} {a d : List ℕ} → Sifted L T m r j pivot a d → ((k : ℕ) → j ≤ k → k < x → cell L a m (pivot k) ≡ 0)
+    → Sifted L T m r x pivot a d
+sift-past s z = record { stepped = s .stepped; gone = on-to (s .gone) z }
 
 -- ---- all held rows are off row m
 
@@ -231,6 +244,11 @@ reduce-row {q = q} s hq hj e sa sd = record {
   later = λ i h k b l. row-other q sa i (λ z. omega arith) _ (s .stepped .column k l) ∙ s .later i h k b l;
   gone = off-more (s .stepped) q hj e sa sd (q + 1) (s .gone);
 }
+
+-- row q is 0 at the next pivots already
+pub reduce-past : {L T m r q j x : ℕ} {pivot : ℕ → ℕ} {a d : List ℕ} → Reducing L T m r q j pivot a d → ((k : ℕ) → j ≤ k → k < x → cell L a q (pivot k) ≡ 0)
+    → Reducing L T m r q x pivot a d
+reduce-past s z = record { stepped = s .stepped; later = s .later; gone = on-to (s .gone) z }
 
 -- the first row is off all after it
 pub reduce-end : {L T m r : ℕ} {pivot : ℕ → ℕ} {a d : List ℕ} → Reducing L T m r 0 r pivot a d → Held L T m r pivot a d

@@ -1,14 +1,15 @@
 -- Room for the equations, what a search along a row finds, and the elimination's words carried from one step to the next.
 -- Assumes nothing.
-use mathlib.Core.Path.{_≡_, ap, _∙_}
+use mathlib.Core.Path.{_≡_, ap, _∙_, subst}
 use mathlib.Core.Logic.{_≢_}
 use mathlib.Core.List.{List}
 use Prim.Native.Nat.{ℕ, _+_, _-_, _*_, _≤_, _<_}
 use native.Mathlib.Nat.{mul-le-mul-right}
+use native.Mathlib.Decide.{decLt}
 use native.Mathlib.Omega.{arith}
 use lib.ListN.{length, getD}
 use Rattle.linear.specs.Bytes.{cell}
-use Rattle.solver.specs.Steps.{Room, FirstOther, Clashes}
+use Rattle.solver.specs.Steps.{Room, FirstOther, Passed, Clashes, column}
 
 pub room-kept : {n L T : ℕ} {a d a₁ d₁ : List ℕ} → Room n L T a d → length a₁ ≡ length a → length d₁ ≡ length d → Room n L T a₁ d₁
 room-kept h p q = record { rows = omega (arith, h .rows); symbols = omega (arith, h .symbols) }
@@ -34,3 +35,15 @@ clashes-more l h = record {
   last = h .last;
   other = h .other;
 }
+
+-- ---- the pivots that are passed over
+
+pub passed-none : (xs ps : List ℕ) (start : ℕ) {k r : ℕ} → k ≤ r → Passed xs ps start k r k
+passed-none xs ps start h = record { least = omega arith; most = h; zeros = λ j b l. absurd (omega arith) }
+
+pub passed-more : {xs ps : List ℕ} {start k r x : ℕ} → Passed xs ps start k r x → x < r → getD xs (start + column ps x) 0 ≡ 0 → Passed xs ps start k r (x + 1)
+passed-more {xs} {ps} {start} {k} {x = x} p h z = record { least = (let q = p .least in omega arith); most = omega arith; zeros = λ j b l. go j b (decLt j x) l }
+  where
+    go : (j : ℕ) → k ≤ j → Dec (j < x) → j < x + 1 → getD xs (start + column ps j) 0 ≡ 0
+    go j b (yes l) q = p .zeros j b l
+    go j b (no l) q = let e : x ≡ j = omega arith in subst (λ (i : ℕ). getD xs (start + column ps i) 0 ≡ 0) e z

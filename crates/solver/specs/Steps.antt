@@ -34,6 +34,12 @@ pub record FirstOther (xs : List ℕ) (from to x : ℕ) : Type 0 where
   pub zeros : (k : ℕ) → k < x → from ≤ k → getD xs k 0 ≡ 0
   pub other : x < to → getD xs x 0 ≢ 0
 
+-- x is a number of a pivot from k on, or r, and the row that begins at `start` is 0 at the pivots before it
+pub record Passed (xs ps : List ℕ) (start k r x : ℕ) : Type 0 where
+  pub least : k ≤ x
+  pub most : x ≤ r
+  pub zeros : (j : ℕ) → k ≤ j → j < x → getD xs (start + column ps j) 0 ≡ 0
+
 -- row k went to place i by way of `between`, and left 0
 pub record Moved (w i k : ℕ) (xs zs : List ℕ) : Type 0 where
   pub between : List ℕ

@@ -22,10 +22,11 @@ fn reduce_row(
     ensures { λ _. ⌜ Reducing l t m r q r (column (now (pivots .entry))) (now (rows .exit)) (now (values .exit)) ⌝ }
     ensures { λ _. ⌜ Keeps m l t (now (rows .entry)) (now (values .entry)) (now (rows .exit)) (now (values .exit)) ⌝ }
 {
-    let mut j = q + 1;
+    let start = q * l;
+    let mut j = rows::next_pivot(rows, pivots, start, q + 1, r);
     while j < r {
         rows::take_off(rows, values, l, t, q, j, pivots[j] as usize);
-        j += 1;
+        j = rows::next_pivot(rows, pivots, start, j + 1, r);
     }
 }
 

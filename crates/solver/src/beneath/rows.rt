@@ -7,7 +7,7 @@ ghost use Rattle.field.specs.Octet as octets;
 ghost use Rattle.field.specs.Runs.{Apart};
 ghost use Rattle.linear.specs.Bytes.{cell};
 ghost use Rattle.linear.specs.Rows.{RowAdded, RowTimes, RowCopied};
-ghost use Rattle.solver.specs.Steps.{FirstOther, Moved};
+ghost use Rattle.solver.specs.Steps.{FirstOther, Moved, Passed, column};
 use crate::beneath::coefficients;
 use field::octet;
 use slab::beneath::symbols;
@@ -66,6 +66,23 @@ pub fn first_other(store: &[u8], from: usize, to: usize) -> usize
     let mut x = from;
     while x < to {
         if store[x] != 0 {
+            return x;
+        }
+        x += 1;
+    }
+    x
+}
+
+// The first pivot from number k on at which the row that begins at `start` is not 0, or r. Most are passed over here, and a call for each would
+// take longer than the look.
+pub fn next_pivot(rows: &[u8], pivots: &[u16], start: usize, k: usize, r: usize) -> usize
+    requires { ⌜ (k ≤ r) × (r ≤ length (now pivots)) × ((j : ℕ) → j < r → start + column (now pivots) j < length (now rows)) ⌝ }
+    ensures { λ x. ⌜ Passed (now (rows .entry)) (now (pivots .entry)) start k r x ⌝ }
+{
+    let mut x = k;
+    while x < r {
+        let c = pivots[x] as usize;
+        if rows[start + c] != 0 {
             return x;
         }
         x += 1;

@@ -23,10 +23,11 @@ pub fn sift(
     ensures { λ _. ⌜ Sifted l t i r r (column (now (pivots .entry))) (now (rows .exit)) (now (values .exit)) ⌝ }
     ensures { λ _. ⌜ Keeps (i + 1) l t (now (rows .entry)) (now (values .entry)) (now (rows .exit)) (now (values .exit)) ⌝ }
 {
-    let mut k = 0;
+    let start = i * l;
+    let mut k = rows::next_pivot(rows, pivots, start, 0, r);
     while k < r {
         rows::take_off(rows, values, l, t, i, k, pivots[k] as usize);
-        k += 1;
+        k = rows::next_pivot(rows, pivots, start, k + 1, r);
     }
 }
 

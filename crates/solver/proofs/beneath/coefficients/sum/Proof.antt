@@ -1,7 +1,7 @@
 -- `solver::beneath::coefficients::sum` meets its contract: the first c places are done.
 -- Assumes nothing.
 use mathlib.Core.Path.{ap₂}
-use Prim.Native.Nat.{ℕ, _+_, _-_, _≤_}
+use Prim.Native.Nat.{_+_, _-_, _≤_}
 use native.Mathlib.Omega.{arith}
 use lib.ListN.{getD}
 use Rattle.field.specs.Octet.{plus}
