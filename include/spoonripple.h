@@ -288,6 +288,7 @@ uint32_t spoonripple_encode(uint32_t k, uint32_t j, uint32_t s, uint32_t h, uint
  * A set of L intermediate symbols fits if it meets the S LDPC and H HDPC rows and the padding rows K..K' - 1, and its encodings
  * are the symbols that arrived. The answer is
  *   SPOONRIPPLE_DONE           exactly one set fits: intermediate symbol c stands at c * t of out
+ *                              (just as many damaged arrivals as are needed fit some set too: drop them by the link's checksum)
  *   SPOONRIPPLE_CONTRADICTION  none fits: something that arrived is not what the sender sent
  *   SPOONRIPPLE_OPEN           more than one fits: shortfall[0] independent rows are missing, so that at least so many more
  *                              arrivals are needed
@@ -295,7 +296,8 @@ uint32_t spoonripple_encode(uint32_t k, uint32_t j, uint32_t s, uint32_t h, uint
  * 10 (t is 0), 10 (symbols_len is not n * t), 8 (rows, values or out too short), 8 (shortfall has no place).
  * Lent: rows and values are scratch of any content, M * L and M * t octets, where M = S + H + K' - count + n; out is L * t octets.
  * Writes: after each answer that is no refusal the first M * L octets of rows and M * t of values are 0. The first L * t octets of
- * out are written only with SPOONRIPPLE_DONE, shortfall[0] only with SPOONRIPPLE_OPEN. */
+ * out are written only with SPOONRIPPLE_DONE, shortfall[0] only with SPOONRIPPLE_OPEN.
+ * About 132 KiB of stack are used, whatever the row. */
 uint32_t spoonripple_solve(uint32_t k, uint32_t j, uint32_t s, uint32_t h, uint32_t w, const uint32_t *tables, size_t tables_len,
                            uint32_t count, uint16_t t, const uint32_t *esis, size_t esis_len, const uint8_t *symbols, size_t symbols_len,
                            uint8_t *rows, size_t rows_len, uint8_t *values, size_t values_len, uint8_t *out, size_t out_len,

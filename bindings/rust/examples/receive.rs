@@ -1,6 +1,10 @@
 //! A receiver: the sender's 12 bytes of transmission information and packets in, the object out. `main` below takes the published crate's encoder for the sender.
+#![forbid(unsafe_code)]
 use spoonripple::headers::{ObjectTransmissionInformation, partition, read_packet};
 use spoonripple::{Block, Refusal, Row, Tables, Verdict};
+
+/// The longest object that this station expects: a damaged header can name 900 GB, and its blocks would be allocated.
+const LONGEST: u64 = 1 << 26;
 
 /// The object, or None if the packets ended before each block was solved. A refusal says that the header is not one that a sender may send.
 fn receive(header: &[u8], packets: impl Iterator<Item = Vec<u8>>) -> Result<Option<Vec<u8>>, Refusal> {
@@ -9,7 +13,7 @@ fn receive(header: &[u8], packets: impl Iterator<Item = Vec<u8>>) -> Result<Opti
     info.check()?;
     let (length, t) = (info.transfer_length as usize, info.symbol_size);
     // The check lets T = 0 pass, as the crate does; and more sub-blocks than one would have to be put in order afterwards (RFC 6330, 4.4.1.2).
-    if t == 0 || info.num_sub_blocks != 1 {
+    if info.transfer_length > LONGEST || t == 0 || info.num_sub_blocks != 1 {
         return Err(Refusal::BadTransmission);
     }
     // ceil(F/T) symbols in Z blocks: the first ones have one symbol more.

@@ -8,7 +8,8 @@ use crate::sys;
 /// What a solved, open or contradictory system is called. The three are exact: they are proved of every call that is not refused.
 #[derive(Clone, Copy, Debug, PartialEq, Eq)]
 pub enum Verdict {
-    /// A single set of intermediate symbols fits all that arrived, and it stands in the out store.
+    /// A single set of intermediate symbols fits all that arrived, and it stands in the out store. Whether what arrived is what was sent no solver can
+    /// tell from just as many packets as it needs: drop damaged packets by the link's checksum first.
     Solved,
     /// No set fits: something that arrived is not what the sender sent. The out store is as it was.
     Contradiction,

@@ -10,6 +10,22 @@
 //!
 //! A refusal changes nothing that was lent.
 //!
+//! Two parts of one buffer can be lent, one part twice cannot:
+//!
+//! ```
+//! let mut run = [1, 2, 3, 4];
+//! let (dst, src) = run.split_at_mut(2);
+//! spoonripple::octets::run_add(dst, src)?;
+//! assert_eq!(run, [1 ^ 3, 2 ^ 4, 3, 4]);
+//! # Ok::<(), spoonripple::Refusal>(())
+//! ```
+//!
+//! ```compile_fail,E0502
+//! let mut run = [1, 2, 3, 4];
+//! spoonripple::octets::run_add(&mut run[..2], &run[1..3])?;
+//! # Ok::<(), spoonripple::Refusal>(())
+//! ```
+//!
 //! # A receiver
 //!
 //! ```

@@ -1,5 +1,6 @@
 //! Every call that needs no delivery: its answer beside the published crate's or an example of docs/01-scope.md, and its refusals, which leave the
 //! lent memory alone.
+#![forbid(unsafe_code)]
 use raptorq::matrix::{BinaryMatrix, DenseBinaryMatrix};
 use raptorq::octet::Octet;
 use spoonripple::headers::{ObjectTransmissionInformation, Parts, PayloadId, partition, read_packet, write_packet};

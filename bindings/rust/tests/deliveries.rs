@@ -1,4 +1,5 @@
 //! Deliveries of the published crate's encoder, received by `Block` and by the calls beneath it.
+#![forbid(unsafe_code)]
 use raptorq::{EncodingPacket, ObjectTransmissionInformation, SourceBlockDecoder, SourceBlockEncoder};
 use spoonripple::blocks::{Arrivals, Room, Shown, Stores, display, encode, solve};
 use spoonripple::{Block, Refusal, Row, Tables, Verdict};
@@ -197,7 +198,8 @@ fn the_stores_of_solve_are_as_large_as_told_and_left_as_told() {
 fn solve_refuses_and_leaves_the_stores() {
     let sender = Sender::new(K, T);
     let fresh = || Call::new(&sender.packets(|_| false, 1));
-    let damages: [(fn(&mut Call), u32); 6] = [
+    type Damage = fn(&mut Call);
+    let damages: [(Damage, u32); 6] = [
         (|c| c.stores[0].truncate(c.room.rows - 1), 8),
         (|c| c.stores[1].truncate(c.room.values - 1), 8),
         (|c| c.stores[2].truncate(c.room.out - 1), 8),

@@ -1,4 +1,5 @@
 //! The data that this crate and bindings/c carry is that of the published crate.
+#![forbid(unsafe_code)]
 use raptorq::{ObjectTransmissionInformation, SourceBlockEncoder};
 use spoonripple::parameters::{PUBLISHED_ROWS, PUBLISHED_TABLES};
 use spoonripple::{Refusal, Row, Tables};

@@ -1,4 +1,5 @@
 //! The signatures stand three times: in the Rattle source, in include/spoonripple.h and in src/sys.rs. They are the same, names and types.
+#![forbid(unsafe_code)]
 use std::collections::BTreeSet;
 use std::fs;
 use std::path::Path;
@@ -12,7 +13,10 @@ fn signatures(text: &str, head: &str, parameter: fn(&str) -> Vec<String>) -> BTr
     calls
         .map(|rest| {
             let (name, rest) = rest.split_once('(').unwrap();
-            let parameters = rest.split_once(')').unwrap().0.split(',').map(str::trim).filter(|p| !p.is_empty());
+            let (parameters, after) = rest.split_once(')').unwrap();
+            // In C the result stands in `head`.
+            assert!(after.starts_with(" -> u32") || after.starts_with(';'), "{name}");
+            let parameters = parameters.split(',').map(str::trim).filter(|p| !p.is_empty());
             (name.to_string(), parameters.flat_map(parameter).collect())
         })
         .collect()
