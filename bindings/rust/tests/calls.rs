@@ -134,6 +134,7 @@ fn partitions_are_the_crates() {
 fn rows_and_tables_are_checked() {
     assert_eq!(row().numbers(), [10, 254, 7, 10, 17]);
     assert_eq!(row().sizes(), Sizes { l: 27, p: 10, b: 10, p1: 11 });
+    assert_eq!(Row::published(12).unwrap().sizes(), Sizes { l: 29, p: 10, b: 12, p1: 11 });
     for bad in [[0, 254, 7, 10, 17], [10, 65536, 7, 10, 17], [10, 254, 8, 10, 17], [10, 254, 7, 1, 17], [10, 254, 7, 10, 18], [10, 254, 7, 10, 29]] {
         assert_eq!(Row::new(bad), Err(Refusal::BadRow), "{bad:?}");
     }
@@ -221,7 +222,7 @@ const M: Shape = Shape { height: 6, width: 70 };
 fn matrix_entries_are_the_crates() {
     let (theirs, words) = filled();
     let mut ours = vec![u64::MAX; 13];
-    assert_eq!(M.words(), 12);
+    assert_eq!((M.words(), Shape { width: 64, ..M }.words(), Shape { width: 65, ..M }.words()), (12, 6, 12));
     assert_eq!(matrix::new(&mut ours, M), Ok(()));
     assert_eq!((&ours[..12], ours[12]), (&[0; 12][..], u64::MAX));
     for (i, j) in (0..6).flat_map(|i| (0..70).map(move |j| (i, j))) {
