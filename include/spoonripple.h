@@ -1,10 +1,30 @@
-/* The C interface of Spoonripple (crates/exports). Link target/staticlib/libexports.a, for x86-64 Linux.
+/* The C interface of Spoonripple (crates/exports): a RaptorQ (RFC 6330) receiving core that is proved never to invent a byte.
+ * `rt staticlib exports` makes target/staticlib/libexports.a, for x86-64 Linux; bindings/c/receive.c is a receiver to begin from.
  *
- * A number passes as itself, a slice as pointer and length. A pointer is valid for its length, even where that is 0 it is
- * not null, and what is lent for writing overlaps nothing else that is lent to the same call.
- * The result is 0 where the call was done, else the number of its refusal in docs/01-scope.md (100 and 101 are two more
- * answers of spoonripple_solve); a call that refuses has changed no byte that it was lent. Values go to the front of `out`,
- * of which the rest stays.
+ * How a call is read
+ *   A number passes as itself. A slice passes as a pointer and how many elements are lent there, NAME and NAME_len.
+ *   A pointer is aligned, valid for NAME_len elements and never null, not even where NAME_len is 0.
+ *   Where the pointer is to const, the call only reads; of all else, "writes" says which elements may change, and all others stay.
+ *
+ * Overlap
+ *   What is lent for writing must overlap nothing else that is lent to the same call. No call can test that: it is the
+ *   caller's part, and with an overlap nothing is promised. Slices that are only read may overlap one another.
+ *
+ * Answers
+ *   The result is SPOONRIPPLE_DONE, or the number of a refusal in docs/01-scope.md; spoonripple_solve has two more answers.
+ *   Each call lists its refusals in the order in which they are tested: the first that applies is the answer.
+ *   A call that refuses has changed nothing that it was lent. It holds no memory, keeps no pointer and has no state: calls
+ *   from many threads on memory of their own are independent.
+ *   Values go to the front of `out`, which needs room for all of them; a longer slice is taken, and its rest stays. The same
+ *   holds for every store and list.
+ *
+ * Words
+ *   K source symbols of T octets make a block. `k, j, s, h, w` is a parameter row K', J, S, H, W (5.6 of the RFC, Table 2), of
+ *   which L = K' + S + H, P = L - W, B = W - S and P1, the smallest prime not below P. `tables` are the random numbers V0, V1,
+ *   V2, V3 (5.5) one after the other, 1,024 in all. Row and tables are lent: any that are not refused are taken.
+ *   bindings/data has the published ones, ready for #include.
+ *   An ESI counts what was sent, an ISI counts rows of the matrix; spoonripple_isi makes the second from the first.
+ *   a..b are the numbers from a to b, both included; for rows, columns and lists "from start to end" leaves end out.
  */
 #ifndef SPOONRIPPLE_H
 #define SPOONRIPPLE_H
@@ -17,140 +37,279 @@ extern "C" {
 #endif
 
 #define SPOONRIPPLE_DONE 0
+/* An octet is divided by 0. */
 #define SPOONRIPPLE_DIVISOR_ZERO 1
+/* A number is outside its range. */
 #define SPOONRIPPLE_OUT_OF_RANGE 2
+/* Transmission information breaks its rules. */
 #define SPOONRIPPLE_BAD_TRANSMISSION 3
+/* The parameter row breaks its rules. */
 #define SPOONRIPPLE_BAD_ROW 4
+/* The random tables are not 1,024 numbers. */
 #define SPOONRIPPLE_BAD_TABLES 5
+/* A row, column, range or symbol lies outside, or a resize would grow. */
 #define SPOONRIPPLE_OUTSIDE 6
+/* Destination and source are one row, or one physical symbol. */
 #define SPOONRIPPLE_SAME_PLACE 7
+/* A lent part is too short, or not of its exact length where one is named. */
 #define SPOONRIPPLE_WRONG_LENGTH 8
+/* An ESI of 2^24 or more, K not in 1..K', more than 65,535 ids or arrivals, too few ids for a builder. */
 #define SPOONRIPPLE_BAD_COUNT 9
+/* Symbol size 0, or symbols that are not T octets each. */
 #define SPOONRIPPLE_BAD_SIZE 10
-/* What a call that solves answers besides, no refusals. */
+/* No refusals: what spoonripple_solve answers besides. */
 #define SPOONRIPPLE_CONTRADICTION 100
 #define SPOONRIPPLE_OPEN 101
 
-/* Octets (RFC 6330, 5.7.2): out[0] is the sum, the difference, the product, a + b * c. Refusal: 8 (out has no place). */
+/* ---- Octets (RFC 6330, 5.7.2) ---- */
+
+/* a + b, which is exclusive or.
+ * Refusals: 8 (out has no place). Writes out[0]. */
 uint32_t spoonripple_octet_add(uint8_t a, uint8_t b, uint64_t *out, size_t out_len);
+
+/* a - b, which is the same as a + b.
+ * Refusals: 8 (out has no place). Writes out[0]. */
 uint32_t spoonripple_octet_sub(uint8_t a, uint8_t b, uint64_t *out, size_t out_len);
+
+/* a * b.
+ * Refusals: 8 (out has no place). Writes out[0]. */
 uint32_t spoonripple_octet_mul(uint8_t a, uint8_t b, uint64_t *out, size_t out_len);
+
+/* a + b * c.
+ * Refusals: 8 (out has no place). Writes out[0]. */
 uint32_t spoonripple_octet_fma(uint8_t a, uint8_t b, uint8_t c, uint64_t *out, size_t out_len);
-/* The quotient. Refusals: 8, then 1 (by is 0). */
+
+/* a / by.
+ * Refusals: 8 (out has no place), 1 (by is 0). Writes out[0]. */
 uint32_t spoonripple_octet_div(uint8_t a, uint8_t by, uint64_t *out, size_t out_len);
-/* Alpha to the power i. Refusals: 2 (i above 255), then 8. */
+
+/* Alpha to the power i.
+ * Refusals: 2 (i above 255), 8 (out has no place). Writes out[0]. */
 uint32_t spoonripple_octet_alpha(size_t i, uint64_t *out, size_t out_len);
 
-/* Runs of octets (RFC 6330, 5.7.5): dst + src, c * dst, dst + c * src, in dst. Refusal: 8 (the runs differ in length). */
+/* ---- Runs of octets (RFC 6330, 5.7.5) ---- */
+
+/* dst + src, octet by octet.
+ * Refusals: 8 (the two differ in length). Writes all of dst. */
 uint32_t spoonripple_run_add(uint8_t *dst, size_t dst_len, const uint8_t *src, size_t src_len);
+
+/* c * dst, octet by octet; c may be 0 or 1.
+ * No refusals. Writes all of dst. */
 uint32_t spoonripple_run_scale(uint8_t *dst, size_t dst_len, uint8_t c);
+
+/* dst + c * src, octet by octet; c may be 0 or 1.
+ * Refusals: 8 (the two differ in length). Writes all of dst. */
 uint32_t spoonripple_run_fma(uint8_t *dst, size_t dst_len, const uint8_t *src, size_t src_len, uint8_t c);
 
-/* Payload ids (RFC 6330, 3.2): 4 bytes. Reading: out[0..2] block number, ESI; 8 (not 4 bytes, or no room).
- * Writing: 4 bytes at the front of store; 9 (esi of 2^24 or more), then 8 (store below 4 bytes). */
-uint32_t spoonripple_payload_id_read(const uint8_t *bytes, size_t len, uint64_t *out, size_t out_len);
+/* ---- Headers and packets (RFC 6330, 3.2, 3.3.2, 3.3.3, 4.4.1.2, 4.4.2) ---- */
+
+/* Reads a payload id of exactly 4 bytes: the block's number, the ESI.
+ * Refusals: 8 (another length), 8 (out below 2 places). Writes out[0] and out[1]. */
+uint32_t spoonripple_payload_id_read(const uint8_t *bytes, size_t bytes_len, uint64_t *out, size_t out_len);
+
+/* Writes a payload id.
+ * Refusals: 9 (esi of 2^24 or more), 8 (store below 4 bytes). Writes the first 4 bytes of store. */
 uint32_t spoonripple_payload_id_write(uint8_t sbn, uint32_t esi, uint8_t *store, size_t store_len);
 
-/* Transmission information (3.3.2, 3.3.3): 12 bytes. Reading applies no rule: out[0..5] F, T, Z, N, Al; 8.
- * Writing: 2 (f of 2^40 or more), then 8; the reserved byte is written 0. The check: 3 where a rule of docs/01-scope.md is broken. */
-uint32_t spoonripple_transmission_read(const uint8_t *bytes, size_t len, uint64_t *out, size_t out_len);
+/* Reads transmission information of exactly 12 bytes and applies no rule: F, T, Z, N, Al. The reserved byte is ignored.
+ * Refusals: 8 (another length), 8 (out below 5 places). Writes out[0] to out[4]. */
+uint32_t spoonripple_transmission_read(const uint8_t *bytes, size_t bytes_len, uint64_t *out, size_t out_len);
+
+/* Writes transmission information, with 0 for the reserved byte; no rule is applied.
+ * Refusals: 2 (f of 2^40 or more), 8 (store below 12 bytes). Writes the first 12 bytes of store. */
 uint32_t spoonripple_transmission_write(uint64_t f, uint16_t t, uint8_t z, uint16_t n, uint8_t al, uint8_t *store, size_t store_len);
+
+/* Applies the rules: F at most 942,574,504,275, Al not 0, T a multiple of Al, and ceil(ceil(F/T)/Z) at most 56,403 where
+ * neither T nor Z is 0. T = 0 and Z = 0 pass, as in the crate raptorq: test them before you divide.
+ * Refusals: 3 (a rule is broken). Nothing is lent. */
 uint32_t spoonripple_transmission_check(uint64_t f, uint16_t t, uint8_t z, uint16_t n, uint8_t al);
 
-/* Packets (4.4.2). Reading: out[0..4] block number, ESI, where the symbols' bytes begin, how many they are; 8 (below 4 bytes).
- * Writing: the id and the bytes at the front of store; 9, then 8 (store below 4 + len). */
-uint32_t spoonripple_packet_read(const uint8_t *bytes, size_t len, uint64_t *out, size_t out_len);
-uint32_t spoonripple_packet_write(uint8_t sbn, uint32_t esi, const uint8_t *bytes, size_t len, uint8_t *store, size_t store_len);
+/* Takes a packet apart: the block's number, the ESI, where its symbols' bytes begin, how many they are.
+ * Refusals: 8 (below 4 bytes), 8 (out below 4 places). Writes out[0] to out[3]. */
+uint32_t spoonripple_packet_read(const uint8_t *bytes, size_t bytes_len, uint64_t *out, size_t out_len);
 
-/* Partition[i, j] (4.4.1.2): out[0..4] IL, IS, JL, JS; 2 (j is 0), then 8. */
+/* Writes a packet: the payload id, and the bytes after it.
+ * Refusals: 9 (esi of 2^24 or more), 8 (store below 4 + bytes_len bytes). Writes the first 4 + bytes_len bytes of store. */
+uint32_t spoonripple_packet_write(uint8_t sbn, uint32_t esi, const uint8_t *bytes, size_t bytes_len, uint8_t *store, size_t store_len);
+
+/* Partition[i, j]: IL, IS, JL, JS. i things are JL parts of IL and then JS parts of IS.
+ * Refusals: 2 (j is 0), 8 (out below 4 places). Writes out[0] to out[3]. */
 uint32_t spoonripple_partition(uint32_t i, uint32_t j, uint64_t *out, size_t out_len);
 
-/* Rand (5.3.5.1) over the tables V0, V1, V2, V3, 1,024 numbers: out[0]; 5 (another length), 2 (m is 0), then 8. */
-uint32_t spoonripple_rand(const uint32_t *tables, size_t len, uint32_t y, uint8_t i, uint32_t m, uint64_t *out, size_t out_len);
+/* ---- Generators and the parameter row (RFC 6330, 5.3.5, 5.5, 5.6) ---- */
 
-/* Deg[v] (5.3.5.2) for w LT symbols: out[0]; 2 (v of 2^20 or more, w below 2), then 8. */
+/* Rand[y, i, m] (5.3.5.1).
+ * Refusals: 5 (tables of another length than 1,024), 2 (m is 0), 8 (out has no place). Writes out[0]. */
+uint32_t spoonripple_rand(const uint32_t *tables, size_t tables_len, uint32_t y, uint8_t i, uint32_t m, uint64_t *out, size_t out_len);
+
+/* Deg[v] (5.3.5.2) for w LT symbols; with w = 2 it is 0.
+ * Refusals: 2 (v of 2^20 or more), 2 (w below 2), 8 (out has no place). Writes out[0]. */
 uint32_t spoonripple_deg(uint32_t v, uint32_t w, uint64_t *out, size_t out_len);
 
-/* The parameter row K', J, S, H, W (5.6): out[0..4] L, P, B, P1; 4 (a rule of docs/01-scope.md is broken), then 8. */
+/* Checks a parameter row and gives L, P, B, P1. The rules: each number below 65,536, K' in 1..56,403, S odd and at least 3, H
+ * in 2..255, W prime, B at least 1, P at least 3, ceil(B/S) below S, L at most 65,535.
+ * Refusals: 4 (a rule is broken), 8 (out below 4 places). Writes out[0] to out[3]. */
 uint32_t spoonripple_row_check(uint32_t k, uint32_t j, uint32_t s, uint32_t h, uint32_t w, uint64_t *out, size_t out_len);
 
-/* The ISI of an ESI in a block of count source symbols: out[0]; 4, 9 (count not in 1..K', esi of 2^24 or more), then 8. */
-uint32_t spoonripple_isi(uint32_t k, uint32_t j, uint32_t s, uint32_t h, uint32_t w, uint32_t count, uint32_t esi, uint64_t *out, size_t out_len);
+/* The ISI of an ESI in a block of count source symbols: esi where it is below count, else esi + K' - count.
+ * Refusals: 4 (the row), 9 (esi of 2^24 or more), 9 (count not in 1..K'), 8 (out has no place). Writes out[0]. */
+uint32_t spoonripple_isi(uint32_t k, uint32_t j, uint32_t s, uint32_t h, uint32_t w, uint32_t count, uint32_t esi,
+                         uint64_t *out, size_t out_len);
 
-/* The tuple of an ISI of any 32 bits (5.3.5.4): out[0..6] d, a, b, d1, a1, b1; 4, 5, then 8. */
-uint32_t spoonripple_tuple(uint32_t k, uint32_t j, uint32_t s, uint32_t h, uint32_t w, const uint32_t *tables, size_t len, uint32_t isi, uint64_t *out, size_t out_len);
+/* The tuple of an ISI of any 32 bits (5.3.5.4): d, a, b, d1, a1, b1. An ESI goes through spoonripple_isi first.
+ * Refusals: 4 (the row), 5 (the tables), 8 (out below 6 places). Writes out[0] to out[5]. */
+uint32_t spoonripple_tuple(uint32_t k, uint32_t j, uint32_t s, uint32_t h, uint32_t w, const uint32_t *tables, size_t tables_len,
+                           uint32_t isi, uint64_t *out, size_t out_len);
 
-/* Symbols in lent bytes: count symbols of t bytes at the front of store, an order of length 0 (none) or count, of which only
- * the entries used are looked at. Refusals: 2 (count above 131,070), 8 (store below count * t bytes, order of another length),
- * 6 (a symbol of count or more, or an order that puts it there), 7 (dest and src are one physical symbol).
- * The bytes of the one symbol are written, all others stay. */
-/* All count * t bytes are 0 now. Refusals: 2, then 8. */
+/* ---- Symbols in lent bytes ----
+ * count symbols of t bytes stand at the front of store, one after the other; t may be 0. An order of length 0 is none; one of
+ * length count says that symbol i lies at physical place order[i]. Its entries may repeat, and only those used are looked at.
+ * A symbol lies outside if i is count or more, or the order puts it at count or more. */
+
+/* All count * t bytes become 0.
+ * Refusals: 2 (count above 131,070), 8 (store below count * t bytes). Writes the first count * t bytes of store. */
 uint32_t spoonripple_slab_with_zeros(uint8_t *store, size_t store_len, size_t count, uint16_t t);
-/* Where symbol i lies in a store of len bytes: out[0..2] start, end. Refusals: 2, 8 (no room in out too), then 6. */
-uint32_t spoonripple_slab_locate(size_t len, size_t count, uint16_t t, const uint32_t *order, size_t order_len, size_t i, uint64_t *out, size_t out_len);
-/* dest + src, scalar * dest, dest + scalar * src, in dest. Refusals: 2, 8, 6, then 7. */
-uint32_t spoonripple_slab_add_assign(uint8_t *store, size_t store_len, size_t count, uint16_t t, const uint32_t *order, size_t order_len, size_t dest, size_t src);
-uint32_t spoonripple_slab_mulassign_scalar(uint8_t *store, size_t store_len, size_t count, uint16_t t, const uint32_t *order, size_t order_len, size_t dest, uint8_t scalar);
-uint32_t spoonripple_slab_fma(uint8_t *store, size_t store_len, size_t count, uint16_t t, const uint32_t *order, size_t order_len, size_t dest, size_t src, uint8_t scalar);
 
-/* The binary matrix in lent words: height rows of ceil(width / 64) words at the front of words, column c is bit c mod 64 of
- * word c / 64. Refusals: 2 (height above 131,070, width above 65,535), 8 (words, list or out too short), 6 (a row or column
- * outside, a range with start above end or end past the size), 7 (dest and src are one row). Words past the matrix stay. */
-/* Every word of the matrix is 0 now, the bits past the width too. Refusals: 2, then 8. */
+/* Where symbol i lies in a store of len bytes: the first byte, and the byte past the last.
+ * Refusals: 2 (count above 131,070), 8 (out below 2 places), 8 (len below count * t), 8 (order of another length), 6 (i outside).
+ * Writes out[0] and out[1]. */
+uint32_t spoonripple_slab_locate(size_t len, size_t count, uint16_t t, const uint32_t *order, size_t order_len, size_t i,
+                                 uint64_t *out, size_t out_len);
+
+/* dest + src, in dest.
+ * Refusals: 2 (count above 131,070), 8 (store below count * t bytes), 8 (order of another length), 6 (dest or src outside),
+ * 7 (dest and src are one physical symbol). Writes the t bytes of dest in store. */
+uint32_t spoonripple_slab_add_assign(uint8_t *store, size_t store_len, size_t count, uint16_t t, const uint32_t *order, size_t order_len,
+                                     size_t dest, size_t src);
+
+/* scalar * dest, in dest; the scalar may be 0 or 1.
+ * Refusals: 2 (count above 131,070), 8 (store below count * t bytes), 8 (order of another length), 6 (dest outside).
+ * Writes the t bytes of dest in store. */
+uint32_t spoonripple_slab_mulassign_scalar(uint8_t *store, size_t store_len, size_t count, uint16_t t, const uint32_t *order, size_t order_len,
+                                           size_t dest, uint8_t scalar);
+
+/* dest + scalar * src, in dest; the scalar may be 0 or 1.
+ * Refusals: 2 (count above 131,070), 8 (store below count * t bytes), 8 (order of another length), 6 (dest or src outside),
+ * 7 (dest and src are one physical symbol). Writes the t bytes of dest in store. */
+uint32_t spoonripple_slab_fma(uint8_t *store, size_t store_len, size_t count, uint16_t t, const uint32_t *order, size_t order_len,
+                              size_t dest, size_t src, uint8_t scalar);
+
+/* ---- The binary matrix in lent words ----
+ * height rows of ceil(width / 64) words stand at the front of words; column c of a row is bit c mod 64 of its word c / 64. The
+ * bits of a row's last word past the width are stray: what works on whole words moves or adds them too, nothing counts them.
+ * "Limits" is refusal 2 with a height above 131,070 or a width above 65,535; "short" is refusal 8 with words below the matrix. */
+
+/* Every word of the matrix becomes 0, stray bits too.
+ * Refusals: 2 (limits), 8 (short). Writes the words of the matrix. */
 uint32_t spoonripple_matrix_new(uint64_t *words, size_t words_len, size_t height, size_t width);
-/* Row i, column j: 0 clears, any other value sets; out[0] is 0 or 1. Refusals: 2, 8, then 6. */
+
+/* Row i, column j: value 0 clears, any other sets.
+ * Refusals: 2 (limits), 8 (short), 6 (i or j outside). Writes that one bit. */
 uint32_t spoonripple_matrix_set(uint64_t *words, size_t words_len, size_t height, size_t width, size_t i, size_t j, uint8_t value);
-uint32_t spoonripple_matrix_get(const uint64_t *words, size_t words_len, size_t height, size_t width, size_t i, size_t j, uint64_t *out, size_t out_len);
-/* How many of the columns start..end of row i are ones: out[0]. Refusals: 2, 8, then 6. */
-uint32_t spoonripple_matrix_count_ones(const uint64_t *words, size_t words_len, size_t height, size_t width, size_t i, size_t start, size_t end, uint64_t *out, size_t out_len);
-/* The rows start..end with a one in column j, the columns start..width with a one in row i: rising, at the front of list, of
- * which the rest stays; out[0] is how many. Refusals: 2, 8 (list shorter than the whole range too), then 6. */
-uint32_t spoonripple_matrix_get_ones_in_column(const uint64_t *words, size_t words_len, size_t height, size_t width, size_t j, size_t start, size_t end, uint32_t *list, size_t list_len, uint64_t *out, size_t out_len);
-uint32_t spoonripple_matrix_query_non_zero_columns(const uint64_t *words, size_t words_len, size_t height, size_t width, size_t i, size_t start, uint32_t *list, size_t list_len, uint64_t *out, size_t out_len);
-/* Rows i and j change places, whole words; columns i and j do, in the rows from start on. Refusals: 2, 8, then 6. */
+
+/* Row i, column j: 0 or 1.
+ * Refusals: 2 (limits), 8 (out has no place), 8 (short), 6 (i or j outside). Writes out[0]. */
+uint32_t spoonripple_matrix_get(const uint64_t *words, size_t words_len, size_t height, size_t width, size_t i, size_t j,
+                                uint64_t *out, size_t out_len);
+
+/* How many ones row i has in the columns from start to end; 0 where start is end.
+ * Refusals: 2 (limits), 8 (out has no place), 8 (short), 6 (i outside, start above end, end above width). Writes out[0]. */
+uint32_t spoonripple_matrix_count_ones(const uint64_t *words, size_t words_len, size_t height, size_t width, size_t i, size_t start, size_t end,
+                                       uint64_t *out, size_t out_len);
+
+/* The rows from start to end with a one in column j, rising; out[0] is how many.
+ * Refusals: 2 (limits), 8 (out has no place), 8 (short), 8 (list below end - start places, however many there are), 6 (j outside,
+ * start above end, end above height). Writes out[0], and the first out[0] places of list. */
+uint32_t spoonripple_matrix_get_ones_in_column(const uint64_t *words, size_t words_len, size_t height, size_t width, size_t j, size_t start, size_t end,
+                                               uint32_t *list, size_t list_len, uint64_t *out, size_t out_len);
+
+/* The columns from start on with a one in row i, rising; out[0] is how many.
+ * Refusals: 2 (limits), 8 (out has no place), 8 (short), 8 (list below width - start places, however many there are), 6 (i
+ * outside, start above width). Writes out[0], and the first out[0] places of list. */
+uint32_t spoonripple_matrix_query_non_zero_columns(const uint64_t *words, size_t words_len, size_t height, size_t width, size_t i, size_t start,
+                                                   uint32_t *list, size_t list_len, uint64_t *out, size_t out_len);
+
+/* Rows i and j change places, whole words; i may be j.
+ * Refusals: 2 (limits), 8 (short), 6 (i or j outside). Writes the words of the two rows. */
 uint32_t spoonripple_matrix_swap_rows(uint64_t *words, size_t words_len, size_t height, size_t width, size_t i, size_t j);
+
+/* Columns i and j change places in the rows from start on; i may be j, and a start of height or more changes nothing.
+ * Refusals: 2 (limits), 8 (short), 6 (i or j outside, whatever start is). Writes the bits of the two columns in these rows. */
 uint32_t spoonripple_matrix_swap_columns(uint64_t *words, size_t words_len, size_t height, size_t width, size_t i, size_t j, size_t start);
-/* Row dest + row src in row dest, whole words. Refusals: 2, 8, 6, then 7. */
+
+/* Row dest + row src in row dest, whole words.
+ * Refusals: 2 (limits), 8 (short), 6 (dest or src outside), 7 (dest is src). Writes the words of row dest. */
 uint32_t spoonripple_matrix_add_assign_rows(uint64_t *words, size_t words_len, size_t height, size_t width, size_t dest, size_t src);
-/* The first new_height rows and new_width columns, packed to the front; the words past the new end stay. Refusals: 2 (of the
- * new numbers too), 8, then 6 (a size that grows). */
+
+/* The first new_height rows and new_width columns, packed to the front in whole words. Words past the new matrix stay as they
+ * were, and bits past new_width in a row's last word are stray.
+ * Refusals: 2 (limits, of the new numbers and of the old), 8 (short, of the old), 6 (new_height above height or new_width above
+ * width). Writes the words of the new matrix. */
 uint32_t spoonripple_matrix_resize(uint64_t *words, size_t words_len, size_t height, size_t width, size_t new_height, size_t new_width);
 
-/* The walk of a tuple (5.3.5.3): d + d1 places, in walk order, at the front of list. Refusals: 4, 2 (the tuple is outside its bounds), 8. */
-uint32_t spoonripple_enc_indices(uint32_t k, uint32_t j, uint32_t s, uint32_t h, uint32_t w, uint32_t d, uint32_t a, uint32_t b, uint32_t d1, uint32_t a1, uint32_t b1,
-                                 uint32_t *list, size_t list_len);
+/* ---- The linear system (RFC 6330, 5.3.3.3 and 5.3.5.3) ---- */
 
-/* The HDPC rows (5.3.3.3): H rows of L octets, row after row, at the front of store. Refusals: 4, 5, 8. */
-uint32_t spoonripple_hdpc_rows(uint32_t k, uint32_t j, uint32_t s, uint32_t h, uint32_t w, const uint32_t *tables, size_t len, uint8_t *store, size_t store_len);
+/* The walk of a tuple: the d + d1 intermediate symbols that it adds up, in walk order.
+ * Refusals: 4 (the row), 2 (the tuple: d not in 1..30 or above W - 2, a not in 1..W - 1, b not below W, d1 not 2 or 3, a1 not in
+ * 1..P1 - 1, b1 not below P1), 8 (list below d + d1 places). Writes the first d + d1 places of list. */
+uint32_t spoonripple_enc_indices(uint32_t k, uint32_t j, uint32_t s, uint32_t h, uint32_t w,
+                                 uint32_t d, uint32_t a, uint32_t b, uint32_t d1, uint32_t a1, uint32_t b1, uint32_t *list, size_t list_len);
 
-/* The constraint matrix as bits: S LDPC rows, H rows of 0 (none in the second), one row for each ISI of any 32 bits; ceil(L/64) words a row.
- * Refusals: 4, 5, 9 (below K' ids, below K' + H in the second, more than 65,535), 8. */
-uint32_t spoonripple_constraint_matrix(uint32_t k, uint32_t j, uint32_t s, uint32_t h, uint32_t w, const uint32_t *tables, size_t len, const uint32_t *isis, size_t count,
-                                       uint64_t *words, size_t words_len);
-uint32_t spoonripple_constraint_matrix_no_hdpc(uint32_t k, uint32_t j, uint32_t s, uint32_t h, uint32_t w, const uint32_t *tables, size_t len, const uint32_t *isis, size_t count,
-                                               uint64_t *words, size_t words_len);
+/* The HDPC rows: H rows of L octets, row after row.
+ * Refusals: 4 (the row), 5 (the tables), 8 (store below H * L octets). Writes the first H * L octets of store. */
+uint32_t spoonripple_hdpc_rows(uint32_t k, uint32_t j, uint32_t s, uint32_t h, uint32_t w, const uint32_t *tables, size_t tables_len,
+                               uint8_t *store, size_t store_len);
 
-/* The symbol of an ESI (5.3.5.3) of a block of count source symbols of t octets, from its L * t octets of intermediate symbols: t octets at the front of out.
- * Refusals: 4, 5, 9 (count not in 1..K', esi of 2^24 or more), 10 (t is 0), 8 (intermediates or out too short). */
-uint32_t spoonripple_encode(uint32_t k, uint32_t j, uint32_t s, uint32_t h, uint32_t w, const uint32_t *tables, size_t len, uint32_t count, uint16_t t, uint32_t esi,
-                            const uint8_t *intermediates, size_t intermediates_len, uint8_t *out, size_t out_len);
+/* The constraint matrix as bits, laid out as above with width L: S LDPC rows, H rows of 0 in the place of the HDPC rows, and one
+ * row for each ISI of any 32 bits; stray bits are 0.
+ * Refusals: 4 (the row), 5 (the tables), 9 (below K' ids), 9 (more than 65,535), 8 (words below the matrix).
+ * Writes the (S + H + isis_len) * ceil(L / 64) words of the matrix. */
+uint32_t spoonripple_constraint_matrix(uint32_t k, uint32_t j, uint32_t s, uint32_t h, uint32_t w, const uint32_t *tables, size_t tables_len,
+                                       const uint32_t *isis, size_t isis_len, uint64_t *words, size_t words_len);
 
-/* The intermediate symbols of a block of count source symbols of t octets, out of n arrivals: their ESIs, and their symbols one after the other.
- * With L = K' + S + H and M = S + H + K' - count + n, scratch is M * L octets of rows and M * t of values, which are 0 after each answer; out is L * t octets.
- * 0: solved, intermediate symbol c stands at c * t of out. SPOONRIPPLE_CONTRADICTION: no set of symbols fits. SPOONRIPPLE_OPEN: more than one fits, and shortfall[0] is how
- * many independent rows are missing. out is written only where the answer is 0, shortfall only where it is SPOONRIPPLE_OPEN. No arrivals are taken, and open.
- * Refusals: 4, 5, 9 (count not in 1..K', an ESI of 2^24 or more, more than 65,535 arrivals), 10 (t is 0, or symbols_len is not n * t), 8 (rows, values or out too short, or
- * shortfall has no place). */
-uint32_t spoonripple_solve(uint32_t k, uint32_t j, uint32_t s, uint32_t h, uint32_t w, const uint32_t *tables, size_t len, uint32_t count, uint16_t t,
-                           const uint32_t *esis, size_t n, const uint8_t *symbols, size_t symbols_len, uint8_t *rows, size_t rows_len, uint8_t *values, size_t values_len,
-                           uint8_t *out, size_t out_len, uint64_t *shortfall, size_t shortfall_len);
+/* The same without the H rows of 0.
+ * Refusals: 4 (the row), 5 (the tables), 9 (below K' + H ids), 9 (more than 65,535), 8 (words below the matrix).
+ * Writes the (S + isis_len) * ceil(L / 64) words of the matrix. */
+uint32_t spoonripple_constraint_matrix_no_hdpc(uint32_t k, uint32_t j, uint32_t s, uint32_t h, uint32_t w, const uint32_t *tables, size_t tables_len,
+                                               const uint32_t *isis, size_t isis_len, uint64_t *words, size_t words_len);
 
-/* Where source symbol i of a block of k source symbols of t octets is displayed from: out[0] is 0 for the arrivals, of which the first with ESI i counts, 1 for the rebuilt store
- * of k * t octets; out[1] is where its t octets begin there. Nothing but the ESIs is read, and only out is written.
- * Refusals: 9 (k not in 1..56,403, more than 65,535 arrivals, an ESI of 2^24 or more), 10 (t is 0, or arrivals_len is not n * t), 8 (rebuilt too short, or out has no room for
- * two values), 6 (i is k or more). */
-uint32_t spoonripple_display(uint32_t k, uint16_t t, const uint32_t *esis, size_t n, const uint8_t *arrivals, size_t arrivals_len, const uint8_t *rebuilt, size_t rebuilt_len,
-                             uint32_t i, uint64_t *out, size_t out_len);
+/* ---- A block: encoding, solving, display ---- */
+
+/* The symbol of an ESI of a block of count source symbols of t octets, from its L intermediate symbols, L * t octets. For an
+ * ESI below count that is a source symbol.
+ * Refusals: 4 (the row), 5 (the tables), 9 (count not in 1..K'), 9 (esi of 2^24 or more), 10 (t is 0), 8 (intermediates below
+ * L * t octets), 8 (out below t octets). Writes the first t octets of out. */
+uint32_t spoonripple_encode(uint32_t k, uint32_t j, uint32_t s, uint32_t h, uint32_t w, const uint32_t *tables, size_t tables_len,
+                            uint32_t count, uint16_t t, uint32_t esi, const uint8_t *intermediates, size_t intermediates_len,
+                            uint8_t *out, size_t out_len);
+
+/* The intermediate symbols of a block of count source symbols of t octets, out of what arrived: n = esis_len ESIs in any order,
+ * of which one may come twice, and their symbols in the same order. None is taken too, and open.
+ * A set of L intermediate symbols fits if it meets the S LDPC and H HDPC rows and the padding rows K..K' - 1, and its encodings
+ * are the symbols that arrived. The answer is
+ *   SPOONRIPPLE_DONE           exactly one set fits: intermediate symbol c stands at c * t of out
+ *                              (just as many damaged arrivals as are needed fit some set too: drop them by the link's checksum)
+ *   SPOONRIPPLE_CONTRADICTION  none fits: something that arrived is not what the sender sent
+ *   SPOONRIPPLE_OPEN           more than one fits: shortfall[0] independent rows are missing, so that at least so many more
+ *                              arrivals are needed
+ * or a refusal: 4 (the row), 5 (the tables), 9 (an ESI of 2^24 or more), 9 (count not in 1..K'), 9 (more than 65,535 arrivals),
+ * 10 (t is 0), 10 (symbols_len is not n * t), 8 (rows, values or out too short), 8 (shortfall has no place).
+ * Lent: rows and values are scratch of any content, M * L and M * t octets, where M = S + H + K' - count + n; out is L * t octets.
+ * Writes: after each answer that is no refusal the first M * L octets of rows and M * t of values are 0. The first L * t octets of
+ * out are written only with SPOONRIPPLE_DONE, shortfall[0] only with SPOONRIPPLE_OPEN.
+ * About 132 KiB of stack are used, whatever the row. */
+uint32_t spoonripple_solve(uint32_t k, uint32_t j, uint32_t s, uint32_t h, uint32_t w, const uint32_t *tables, size_t tables_len,
+                           uint32_t count, uint16_t t, const uint32_t *esis, size_t esis_len, const uint8_t *symbols, size_t symbols_len,
+                           uint8_t *rows, size_t rows_len, uint8_t *values, size_t values_len, uint8_t *out, size_t out_len,
+                           uint64_t *shortfall, size_t shortfall_len);
+
+/* Where source symbol i of a block of k source symbols of t octets is displayed from: out[0] is 0 for the arrivals, of which the
+ * first with ESI i counts, and 1 for the rebuilt store of k * t octets; out[1] is where its t octets begin there. Of the two
+ * stores only the lengths matter.
+ * Refusals: 9 (k not in 1..56,403), 9 (more than 65,535 ESIs), 9 (an ESI of 2^24 or more), 10 (t is 0), 10 (arrivals_len is not
+ * esis_len * t), 8 (rebuilt below k * t octets), 8 (out below 2 places), 6 (i is k or more). Writes out[0] and out[1]. */
+uint32_t spoonripple_display(uint32_t k, uint16_t t, const uint32_t *esis, size_t esis_len, const uint8_t *arrivals, size_t arrivals_len,
+                             const uint8_t *rebuilt, size_t rebuilt_len, uint32_t i, uint64_t *out, size_t out_len);
 
 #ifdef __cplusplus
 }

@@ -1,0 +1,110 @@
+//! What sender and receiver have to agree on: the parameter row of a block's size and the random tables (RFC 6330, sections 5.5 and 5.6).
+//!
+//! The proved calls carry neither; they hold for every row that keeps its rules and for any tables. This crate carries the published ones as
+//! data: [`Row::published`], [`Tables::published`].
+use crate::refusal::{Refusal, values};
+use crate::sys;
+
+/// The 477 rows of RFC 6330, Table 2, by rising K': K', J, S, H, W.
+pub static PUBLISHED_ROWS: [[u32; 5]; 477] = rows(numbers(include_str!("../../data/parameter_rows.txt")));
+
+/// The tables V0, V1, V2, V3 of RFC 6330, section 5.5, one after the other.
+pub static PUBLISHED_TABLES: [u32; 1024] = numbers(include_str!("../../data/random_tables.txt"));
+
+/// The N numbers of a text in which a comma ends each; another count does not compile.
+const fn numbers<const N: usize>(text: &str) -> [u32; N] {
+    let bytes = text.as_bytes();
+    let (mut all, mut n, mut number, mut at) = ([0; N], 0, 0, 0);
+    while at < bytes.len() {
+        match bytes[at] {
+            digit @ b'0'..=b'9' => number = 10 * number + (digit - b'0') as u32,
+            b',' => {
+                all[n] = number;
+                n += 1;
+                number = 0;
+            }
+            _ => {}
+        }
+        at += 1;
+    }
+    assert!(n == N);
+    all
+}
+
+const fn rows(numbers: [u32; 5 * 477]) -> [[u32; 5]; 477] {
+    let (mut all, mut at) = ([[0; 5]; 477], 0);
+    while at < numbers.len() {
+        all[at / 5][at % 5] = numbers[at];
+        at += 1;
+    }
+    all
+}
+
+/// A parameter row K', J, S, H, W that keeps the rules of `docs/01-scope.md`: the proved check has taken it.
+#[derive(Clone, Copy, Debug, PartialEq, Eq)]
+pub struct Row {
+    numbers: [u32; 5],
+    sizes: Sizes,
+}
+
+/// What follows from a row.
+#[derive(Clone, Copy, Debug, PartialEq, Eq)]
+pub struct Sizes {
+    /// L = K' + S + H: how many intermediate symbols.
+    pub l: u32,
+    /// P = L - W: how many of them are PI symbols.
+    pub p: u32,
+    /// B = W - S: how many LT symbols are not LDPC symbols.
+    pub b: u32,
+    /// P1: the smallest prime not below P.
+    pub p1: u32,
+}
+
+impl Row {
+    /// The row K', J, S, H, W. Refused: 4 where it breaks a rule.
+    pub fn new([k, j, s, h, w]: [u32; 5]) -> Result<Row, Refusal> {
+        let sizes = values(|out, room| unsafe { sys::spoonripple_row_check(k, j, s, h, w, out, room) })?;
+        let [l, p, b, p1] = sizes.map(|x| x as u32);
+        Ok(Row { numbers: [k, j, s, h, w], sizes: Sizes { l, p, b, p1 } })
+    }
+
+    /// The published row for a block of `count` source symbols: the one with the smallest K' that is not below. Refused: 9 where count is not
+    /// in 1..56,403.
+    pub fn published(count: u32) -> Result<Row, Refusal> {
+        let row = PUBLISHED_ROWS.iter().find(|r| count >= 1 && r[0] >= count);
+        Row::new(*row.ok_or(Refusal::BadCount)?)
+    }
+
+    /// K', J, S, H, W.
+    pub fn numbers(self) -> [u32; 5] {
+        self.numbers
+    }
+
+    /// L, P, B, P1.
+    pub fn sizes(self) -> Sizes {
+        self.sizes
+    }
+}
+
+/// Lent random tables V0, V1, V2, V3: 1,024 numbers.
+#[derive(Clone, Copy, Debug, PartialEq, Eq)]
+pub struct Tables<'a>(&'a [u32; 1024]);
+
+impl<'a> Tables<'a> {
+    /// Tables of one's own. Refused: 5 where they are not 1,024 numbers.
+    pub fn new(numbers: &'a [u32]) -> Result<Tables<'a>, Refusal> {
+        numbers.try_into().map(Tables).map_err(|_| Refusal::BadTables)
+    }
+
+    /// The numbers, 256 of each table.
+    pub fn numbers(self) -> &'a [u32; 1024] {
+        self.0
+    }
+}
+
+impl Tables<'static> {
+    /// The tables of RFC 6330.
+    pub fn published() -> Tables<'static> {
+        Tables(&PUBLISHED_TABLES)
+    }
+}

@@ -1,0 +1,42 @@
+//! The data that this crate and bindings/c carry is that of the published crate.
+#![forbid(unsafe_code)]
+use raptorq::{ObjectTransmissionInformation, SourceBlockEncoder};
+use spoonripple::parameters::{PUBLISHED_ROWS, PUBLISHED_TABLES};
+use spoonripple::{Refusal, Row, Tables};
+
+#[test]
+fn all_477_rows() {
+    let theirs = raptorq::systematic_constants::SYSTEMATIC_INDICES_AND_PARAMETERS.map(|(k, j, s, h, w)| [k, j, s, h, w]);
+    assert_eq!(PUBLISHED_ROWS, theirs);
+}
+
+#[test]
+fn all_1024_numbers() {
+    assert_eq!(PUBLISHED_TABLES.to_vec(), raptorq_lent::rng::lent::published());
+    assert_eq!(Tables::published().numbers(), &PUBLISHED_TABLES);
+}
+
+#[test]
+fn the_row_of_every_source_count() {
+    for count in 1..=56403 {
+        let row = Row::published(count).unwrap().numbers();
+        assert_eq!(row[0], raptorq::extended_source_block_symbols(count));
+    }
+    assert_eq!((Row::published(0), Row::published(56404)), (Err(Refusal::BadCount), Err(Refusal::BadCount)));
+}
+
+/// bindings/data/delivery.txt is what the published encoder sends of bindings/data/object.txt in symbols of 4 bytes: the transmission information, and then
+/// the packets, of which source symbols 2, 5 and 6 were lost and four repair packets came.
+#[test]
+fn the_delivery_of_the_c_example() {
+    let mut data = include_bytes!("../../data/object.txt").to_vec();
+    let config = ObjectTransmissionInformation::new(data.len() as u64, 4, 1, 1, 1);
+    data.resize(data.len().next_multiple_of(4), 0);
+    let encoder = SourceBlockEncoder::new(0, &config, &data);
+    let mut packets = encoder.source_packets();
+    packets.retain(|p| ![2, 5, 6].contains(&p.payload_id().encoding_symbol_id()));
+    packets.extend(encoder.repair_packets(0, 4));
+    let lines = std::iter::once(config.serialize().to_vec()).chain(packets.iter().map(|p| p.serialize()));
+    let made: String = lines.map(|line| line.iter().map(|byte| format!("{byte},")).collect::<Vec<_>>().join(" ") + "\n").collect();
+    assert_eq!(made, include_str!("../../data/delivery.txt"), "delivery.txt should be:\n{made}");
+}

@@ -1,0 +1,61 @@
+//! The signatures stand three times: in the Rattle source, in include/spoonripple.h and in src/sys.rs. They are the same, names and types.
+#![forbid(unsafe_code)]
+use std::collections::BTreeSet;
+use std::fs;
+use std::path::Path;
+
+/// A name and its parameters, as `name: type` in the words of Rust.
+type Signature = (String, Vec<String>);
+
+/// Every `head NAME(PARAMETERS)` of a text, each parameter put into words by `parameter`.
+fn signatures(text: &str, head: &str, parameter: fn(&str) -> Vec<String>) -> BTreeSet<Signature> {
+    let calls = text.split(head).skip(1).filter(|rest| rest.starts_with("spoonripple_"));
+    calls
+        .map(|rest| {
+            let (name, rest) = rest.split_once('(').unwrap();
+            let (parameters, after) = rest.split_once(')').unwrap();
+            // In C the result stands in `head`.
+            assert!(after.starts_with(" -> u32") || after.starts_with(';'), "{name}");
+            let parameters = parameters.split(',').map(str::trim).filter(|p| !p.is_empty());
+            (name.to_string(), parameters.flat_map(parameter).collect())
+        })
+        .collect()
+}
+
+/// `tables: &[u32]` passes as pointer and length.
+fn of_rattle(parameter: &str) -> Vec<String> {
+    let (name, kind) = parameter.split_once(": ").unwrap();
+    let slice = |pointer: &str, of: &str| vec![format!("{name}: {pointer} {}", of.trim_end_matches(']')), format!("{name}_len: usize")];
+    match (kind.strip_prefix("&["), kind.strip_prefix("&mut [")) {
+        (Some(of), _) => slice("*const", of),
+        (_, Some(of)) => slice("*mut", of),
+        _ => vec![parameter.to_string()],
+    }
+}
+
+/// `const uint32_t *tables`.
+fn of_c(parameter: &str) -> Vec<String> {
+    let rust = |kind: &str| match kind {
+        "size_t" => "usize".to_string(),
+        _ => kind.replace("uint", "u").replace("_t", ""),
+    };
+    let words: Vec<&str> = parameter.split_whitespace().collect();
+    let last = words[words.len() - 1];
+    vec![match (words.as_slice(), last.strip_prefix('*')) {
+        (["const", kind, _], Some(name)) => format!("{name}: *const {}", rust(kind)),
+        ([kind, _], Some(name)) => format!("{name}: *mut {}", rust(kind)),
+        ([kind, name], None) => format!("{name}: {}", rust(kind)),
+        _ => panic!("what is {parameter}?"),
+    }]
+}
+
+#[test]
+fn header_and_declarations_are_those_of_the_source() {
+    let root = Path::new(env!("CARGO_MANIFEST_DIR")).join("../..");
+    let read = |path: &str| fs::read_to_string(root.join(path)).unwrap();
+    let files = fs::read_dir(root.join("crates/exports/src")).unwrap().map(|entry| fs::read_to_string(entry.unwrap().path()).unwrap());
+    let source = signatures(&files.collect::<String>(), "pub extern \"C\" fn ", of_rattle);
+    assert!(source.len() >= 44, "the source has {} calls", source.len());
+    assert_eq!(signatures(&read("include/spoonripple.h"), "\nuint32_t ", of_c), source);
+    assert_eq!(signatures(&read("bindings/rust/src/sys.rs"), "    pub fn ", |p| vec![p.to_string()]), source);
+}
