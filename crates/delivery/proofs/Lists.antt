@@ -25,6 +25,9 @@ pub row-is : {q r : Row} → q .k ≡ r .k → q .j ≡ r .j → q .s ≡ r .s �
 row-is {q} {r} k j s h w =
     ap₂ (λ (x y : ℕ). row x y (q .s) (q .h) (q .w)) k j ∙ ap₂ (λ (x y : ℕ). row (r .k) (r .j) x y (q .w)) s h ∙ ap (row (r .k) (r .j) (r .s) (r .h)) w
 
+pub reach : {x m n : ℕ} → x ≤ m → m ≡ n → x ≤ n
+reach {x} h e = subst (λ (k : ℕ). x ≤ k) e h
+
 pub tabulated : {f : ℕ → ℕ} {xs ys : List ℕ} {n : ℕ} → Written f xs ys 0 n → n ≤ length xs → take n ys ≡ tabulate n f
 tabulated {f} {xs} {ys} {n} w h =
     let l : length (take n ys) ≡ n = length-take-le n ys (omega (arith, w .size)) in

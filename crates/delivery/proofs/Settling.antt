@@ -2,7 +2,7 @@
 -- Assumes nothing.
 use mathlib.Core.Path.{_≡_, refl, sym, ap, ap₂, _∙_, subst}
 use mathlib.Core.List.{List}
-use Prim.Native.Nat.{ℕ, _*_, _≤_, _<_}
+use Prim.Native.Nat.{ℕ, _*_, _≤_, _<_, _^_}
 use native.Mathlib.Nat.{mul-le-mul}
 use native.Mathlib.Omega.{arith}
 use borrow.Author.Tests.{le-ltb, eq-eqb, ne-eqb, lt-leb}
@@ -100,6 +100,22 @@ decoded r v k t f es zs a d o a₁ d₁ o₁ xs ys x w out n q u e l =
 
 -- ---- a delivery that passes the screen
 
+module _ (d : List ℕ) (h : Sound d) where
+  pub head-12 : 12 ≤ length d
+  head-12 = omega (arith, h .packets .whole)
+
+  pub head-32 : 32 ≤ length d
+  head-32 = omega (arith, h .packets .whole)
+
+  pub t-some : {t : ℕ} → t ≡ tOf d → 0 < t
+  t-some e = omega (arith, h .t-low)
+
+  pub t-16 : {t : ℕ} → t ≡ tOf d → t < 65536
+  t-16 e = omega (arith, h .row .t-high)
+
+  pub k-32 : {k : ℕ} → k ≡ kOf d → k < 2 ^ 32
+  k-32 e = omega (arith, h .row .k-high, h .row .rules .ranges .k-16)
+
 module _ (d : List ℕ) (h : Sound d) {t n : ℕ} (et : t ≡ tOf d) (en : n ≡ countOf (length d) t) where
   pub count-is : n ≡ nOf d
   count-is = en ∙ ap (countOf (length d)) et
@@ -107,11 +123,17 @@ module _ (d : List ℕ) (h : Sound d) {t n : ℕ} (et : t ≡ tOf d) (en : n ≡
   pub count-few : n ≤ 360
   count-few = omega (arith, count-is, h .packets .few)
 
+  pub count-16 : n ≤ 65535
+  count-16 = omega (arith, count-few)
+
   pub packets-fit : packetAt t n ≤ length d
   packets-fit = packets-in t en (subst (λ (x : ℕ). packetAt x (countOf (length d) x) ≡ length d) (sym et) (h .packets .full))
 
   pub octets-few : n * t ≤ 368640
   octets-few = mul-le-mul {n₁ = n} {m₁ = t} {n₂ = 360} {m₂ = 1024} count-few (omega (arith, et, h .row .t-high))
+
+  pub octets-64 : n * t < 2 ^ 64
+  octets-64 = omega (arith, octets-few)
 
   pub esis-are : {xs ys : List ℕ} → Written (esiAt d t) xs ys 0 n → n ≤ length xs → take n ys ≡ esisOf d
   unfolding esisOf

@@ -42,7 +42,7 @@ refusalWords Why.BadSize = ascii "refused 10: the symbol size is 0, or the last 
 
 abbrev pub stopWords : Stop → List ℕ
 stopWords (Stops.Refused why) = refusalWords why
-stopWords Stops.TooLarge = ascii "too large for this program: T is at most 1,024, L 300, and the equations 360\n"
+stopWords Stops.TooLarge = ascii "too large for this program: T is at most 1,024, L at most 300, the equations at most 360\n"
 stopWords Stops.SeveralBlocks = ascii "several blocks: this program takes one source block of one sub-block\n"
 stopWords Stops.OtherBlock = ascii "another block: a packet has a block number other than 0\n"
 

@@ -50,7 +50,7 @@ pub fn stopped(out: &mut [u8], why: Stop) -> usize
         Stop::Refused(w) => refused(out, w),
         Stop::TooLarge => line(
             out,
-            b"too large for this program: T is at most 1,024, L 300, and the equations 360\n",
+            b"too large for this program: T is at most 1,024, L at most 300, the equations at most 360\n",
         ),
         Stop::SeveralBlocks => line(
             out,
