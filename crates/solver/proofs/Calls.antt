@@ -1,19 +1,19 @@
--- Two calls, the second with every arrival of the first: order and repetition do not count (demand 3, growth).
+-- Two calls, the second with every arrival of the first: each equation of the one is an equation of the other. Order and repetition do not count.
+-- What follows of the answers is in `promises`.
 -- Assumes nothing.
 use mathlib.Core.Path.{_≡_, refl, sym, ap, _∙_}
-use mathlib.Core.Logic.{_⊎_}
 use mathlib.Core.List.{List}
-use Prim.Native.Nat.{ℕ, _+_, _≤_, _<_}
+use Prim.Native.Nat.{ℕ, _+_, _<_}
 use native.Mathlib.Nat.{add-sub-cancel-left}
 use native.Mathlib.Omega.{arith}
 use lib.ListN.{length, getD}
 use Rattle.headers.specs.Row.{lOf}
 use Rattle.headers.specs.declared.row.Row.{Row}
 use Rattle.linear.specs.System.{SameEquation, Included}
-use Rattle.linear.specs.Bytes.{Bytes, cell, SolvedBytes, ContradictionBytes, ShortfallBytes}
-use Rattle.linear.proofs.Growth.{included-arrivals, contradiction-remains, solved-stays, shortfall-shrinks}
+use Rattle.linear.specs.Bytes.{cell}
+use Rattle.linear.proofs.Growth.{included-arrivals}
 use Rattle.solver.specs.System.{fixed, sentRow, systemOf}
-use Rattle.solver.proofs.Holding.{row-ldpc, row-hdpc, row-padding, row-arrival, byte-fixed, byte-arrival, octet-symbols}
+use Rattle.solver.proofs.Holding.{row-ldpc, row-hdpc, row-padding, row-arrival, byte-fixed, byte-arrival}
 use native.Mathlib.Decide.{decLt}
 
 module _ (r : Row) (v : List ℕ) (k t : ℕ) (es xs fs ys : List ℕ) where
@@ -45,16 +45,3 @@ module _ (r : Row) (v : List ℕ) (k t : ℕ) (es xs fs ys : List ℕ) where
   among-included m =
       included-arrivals (lOf r) t (fixed r k) (length es) (length fs) (systemOf r v k t es xs) (systemOf r v k t fs ys) refl refl same-fixed
       (λ i h. ((m i h) .0, (m i h) .1, same-arrival i ((m i h) .0) ((m i h) .2) ((m i h) .3)))
-
-  -- a contradiction stays one
-  pub contradiction-stays : Among → ContradictionBytes (lOf r) t (systemOf r v k t es xs) → ContradictionBytes (lOf r) t (systemOf r v k t fs ys)
-  contradiction-stays m = contradiction-remains (among-included m)
-
-  -- solved stays solved with the same bytes, or becomes a contradiction
-  pub call-stays-solved : Among → {C : List ℕ} → 0 < t → Bytes ys → SolvedBytes (lOf r) t (systemOf r v k t es xs) C
-      → SolvedBytes (lOf r) t (systemOf r v k t fs ys) C ⊎ ContradictionBytes (lOf r) t (systemOf r v k t fs ys)
-  call-stays-solved m pos b = solved-stays (among-included m) pos (octet-symbols r v k t fs ys b)
-
-  -- the shortfall never grows
-  pub call-shortfall : Among → {p q : ℕ} → ShortfallBytes (lOf r) t (systemOf r v k t es xs) p → ShortfallBytes (lOf r) t (systemOf r v k t fs ys) q → q ≤ p
-  call-shortfall m = shortfall-shrinks (among-included m)
