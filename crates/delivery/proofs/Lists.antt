@@ -28,6 +28,9 @@ row-is {q} {r} k j s h w =
 pub reach : {x m n : ℕ} → x ≤ m → m ≡ n → x ≤ n
 reach {x} h e = subst (λ (k : ℕ). x ≤ k) e h
 
+pub no-more : {m n : ℕ} → m ≡ n → m ≤ n
+no-more e = omega arith
+
 pub tabulated : {f : ℕ → ℕ} {xs ys : List ℕ} {n : ℕ} → Written f xs ys 0 n → n ≤ length xs → take n ys ≡ tabulate n f
 tabulated {f} {xs} {ys} {n} w h =
     let l : length (take n ys) ≡ n = length-take-le n ys (omega (arith, w .size)) in

@@ -1,26 +1,27 @@
 -- `delivery::receiver::decode` meets its contract.
 -- Assumes nothing.
-use borrow.Author.Needs.{needs}
+use mathlib.Core.Path.{refl}
+use Rattle.delivery.proofs.Lists.{no-more}
 use Rattle.delivery.proofs.receiver.decode.Statement.{statement}
 use Rattle.delivery.proofs.receiver.decode.Tie as tie
 
 slice-aggregate-attempt : tie.Need-slice-aggregate-attempt
-slice-aggregate-attempt c = search needs
+slice-aggregate-attempt c = refl
 
 slice-aggregate-attempt-2 : tie.Need-slice-aggregate-attempt-2
-slice-aggregate-attempt-2 c = search needs
+slice-aggregate-attempt-2 c = refl
 
 slice-aggregate-attempt-3 : tie.Need-slice-aggregate-attempt-3
-slice-aggregate-attempt-3 c = search needs
+slice-aggregate-attempt-3 c = refl
 
 attempt-requires : tie.Need-attempt-requires
-attempt-requires c κs = (c .before .before .before .before .before .before .before .before .pre .0, search needs, search needs, search needs, c .before .before .before .before .before .before .before .before .pre .1)
+attempt-requires c κs = (c .before .before .before .before .before .before .before .before .pre .0, no-more (slice-aggregate-attempt (c .before .before .before)), no-more (slice-aggregate-attempt-2 (c .before .before)), no-more (slice-aggregate-attempt-3 (c .before)), c .before .before .before .before .before .before .before .before .pre .1)
 
 same-length : tie.Need-same-length
-same-length c = search needs
+same-length c = c .before .before .before .before .before .attempt .kept .1 .1 .1 .1 .1 .1 .1 .1 .1 .1 .0
 
 returns : tie.Need-returns
-returns c = search needs
+returns c = c .before .before .before .before .before .attempt .ensures
 
 pub decode-spec : {M : Type 1} → statement M
 decode-spec =
