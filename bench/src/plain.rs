@@ -2,26 +2,6 @@
 use differential::archive::{Arrived, Row, Stores};
 use differential::rows::{rand, sizes, tuple};
 
-/// In which order the rows of arrivals and padding are taken. LDPC rows follow, and HDPC rows.
-#[derive(Clone, Copy, PartialEq)]
-pub enum Order {
-    AsTheyCame,
-    ByDegree,
-}
-
-/// When a row goes off those that were held before it: as soon as it is held, or when all are, from the last on.
-#[derive(Clone, Copy, PartialEq)]
-pub enum Way {
-    AtOnce,
-    Back,
-}
-
-#[derive(Clone, Copy)]
-pub struct Plan {
-    pub order: Order,
-    pub way: Way,
-}
-
 /// The two stores of a system in l symbols of t octets, and the operations on symbols so far: sums, sums with products, products.
 struct System<'a> {
     rows: &'a mut [u8],
@@ -96,7 +76,7 @@ impl System<'_> {
     }
 
     /// Takes equation i; false where it cannot be met.
-    fn take(&mut self, i: usize, way: Way) -> bool {
+    fn take(&mut self, i: usize) -> bool {
         let (l, t, r) = (self.l, self.t, self.pivots.len());
         for k in 0..r {
             self.take_off(i, k, usize::from(self.pivots[k]));
@@ -112,24 +92,18 @@ impl System<'_> {
             self.values[i * t..][..t].fill(0);
         }
         self.pivots.push(c as u16);
-        if way == Way::AtOnce {
-            for k in 0..r {
-                self.take_off(k, r, c);
-            }
-        }
         true
     }
 
-    fn eliminate(&mut self, m: usize, way: Way) -> bool {
-        if !(0..m).all(|i| self.take(i, way)) {
+    /// Forward, and then back from the last held row.
+    fn eliminate(&mut self, m: usize) -> bool {
+        if !(0..m).all(|i| self.take(i)) {
             return false;
         }
-        if way == Way::Back {
-            let r = self.pivots.len();
-            for q in (0..r).rev() {
-                for k in q + 1..r {
-                    self.take_off(q, k, usize::from(self.pivots[k]));
-                }
+        let r = self.pivots.len();
+        for q in (0..r).rev() {
+            for k in q + 1..r {
+                self.take_off(q, k, usize::from(self.pivots[k]));
             }
         }
         true
@@ -151,15 +125,13 @@ fn fill_walk(out: &mut [u8], w: u32, p: u32, p1: u32, [d, a, mut b, d1, a1, mut 
     }
 }
 
-/// The arrivals and the padding rows, from the front of both stores on.
-fn fill_sent(row: Row, tables: &[u32], came: Arrived, order: Order, rows: &mut [u8], values: &mut [u8]) {
+/// The arrivals and the padding rows by degree, from the front of both stores on.
+fn fill_sent(row: Row, tables: &[u32], came: Arrived, rows: &mut [u8], values: &mut [u8]) {
     let [l, p, _, p1] = sizes(row).expect("an accepted row");
     let (n, t, l) = (came.esis.len(), usize::from(came.t), l as usize);
     let isis = came.esis.iter().map(|e| if *e < came.count { *e } else { *e + row[0] - came.count }).chain(came.count..row[0]);
     let mut all: Vec<(usize, [u32; 6])> = isis.map(|x| tuple(row, p1, tables, x)).enumerate().collect();
-    if order == Order::ByDegree {
-        all.sort_by_key(|(_, tuple)| tuple[0]);
-    }
+    all.sort_by_key(|(_, tuple)| tuple[0]);
     for (at, (i, tuple)) in all.into_iter().enumerate() {
         fill_walk(&mut rows[at * l..][..l], row[4], p, p1, tuple);
         let symbol = &mut values[at * t..][..t];
@@ -203,18 +175,18 @@ fn fill_hdpc([k, _, s, h, _]: [usize; 5], tables: &[u32], rows: &mut [u8]) {
 }
 
 /// What the archive's `solve` does, on stores with room: its answer, and the sums, sums with products and products of symbols.
-pub fn solve(row: Row, tables: &[u32], came: Arrived, lent: &mut Stores, plan: Plan) -> (u32, [u64; 3]) {
+pub fn solve(row: Row, tables: &[u32], came: Arrived, lent: &mut Stores) -> (u32, [u64; 3]) {
     let numbers = row.map(|x| x as usize);
     let [k, _, s, h, _] = numbers;
     let (l, t, sent) = (k + s + h, usize::from(came.t), came.esis.len() + k - came.count as usize);
     let m = s + h + sent;
     let (rows, values) = (&mut lent.rows[..m * l], &mut lent.values[..m * t]);
-    fill_sent(row, tables, came, plan.order, rows, values);
+    fill_sent(row, tables, came, rows, values);
     values[sent * t..].fill(0);
     fill_ldpc(numbers, &mut rows[sent * l..]);
     fill_hdpc(numbers, tables, &mut rows[(sent + s) * l..]);
     let mut system = System { rows, values, pivots: vec![], l, t, sums: 0, fused: 0, scaled: 0 };
-    let meets = system.eliminate(m, plan.way);
+    let meets = system.eliminate(m);
     let (pivots, counts) = (std::mem::take(&mut system.pivots), [system.sums, system.fused, system.scaled]);
     let code = if !meets {
         100

@@ -1,15 +1,12 @@
-//! Solving a block of which K + 2 repair packets came and no source packet: against the same elimination in plain Rust, and against the crate's
+//! Solving a block of which K + 2 repair packets came and no source packet: against the same elimination in plain Rust, which takes the rows in the same order, and against the crate's
 //! block decoder, which also rebuilds the source symbols.
-use crate::plain::{self, Order, Plan, Way};
+use crate::plain;
 use crate::{line, timed};
 use differential::archive::{self, Arrived, Row, Stores};
 use differential::{Random, rows};
 use raptorq::{EncodingPacket, ObjectTransmissionInformation, SourceBlockDecoder, SourceBlockEncoder};
 use raptorq_lent::rng::lent::published;
 use std::hint::black_box;
-
-/// How ours goes (crates/solver/src/beneath/filling.rt and eliminate.rt): the plain elimination takes the rows in the same order.
-const OURS: Plan = Plan { order: Order::ByDegree, way: Way::Back };
 
 const T: u16 = 1024;
 
@@ -73,7 +70,7 @@ fn measures(row: Row, k: u32, n: usize) -> [usize; 3] {
 fn agree(block: &Block, tables: &[u32]) -> [u64; 3] {
     let (mut ours, mut theirs) = (block.lent.clone(), block.lent.clone());
     let code = archive::solve(block.row, tables, block.came(), &mut ours);
-    let (plain, operations) = plain::solve(block.row, tables, block.came(), &mut theirs, OURS);
+    let (plain, operations) = plain::solve(block.row, tables, block.came(), &mut theirs);
     assert!(code == 0 && plain == 0 && ours == theirs, "both solve, and leave the same");
     let decoded = SourceBlockDecoder::new(0, &config(block.k), block.data.len() as u64).decode(block.packets.clone());
     assert!(decoded.as_ref() == Some(&block.data), "the crate decodes the block");
@@ -93,7 +90,7 @@ fn ratios(block: &Block, tables: &[u32]) -> [f64; 3] {
     let mut turns = [vec![], vec![], vec![]];
     for _ in 0..(40_000 / block.k).clamp(150, 800) {
         let solve = timed(1, &mut || assert!(archive::solve(block.row, tables, black_box(block.came()), black_box(&mut ours)) == 0));
-        let plain = timed(1, &mut || assert!(plain::solve(block.row, tables, black_box(block.came()), black_box(&mut theirs), OURS).0 == 0));
+        let plain = timed(1, &mut || assert!(plain::solve(block.row, tables, black_box(block.came()), black_box(&mut theirs)).0 == 0));
         let decoder = block.decoded();
         let rebuild = timed(1, &mut || drop(black_box(block.rebuilt(tables, black_box(&block.lent.out)))));
         let turn = [solve / plain, solve / decoder, (solve + rebuild) / decoder];
