@@ -1,6 +1,6 @@
 //! Constraint rows: walks, HDPC octets and both builders, over the published rows and tables and over made-up ones.
 use differential::archive::{self, Row};
-use differential::report::Report;
+use differential::report::{Found, Report};
 use differential::rows::{self, sizes};
 use differential::{Random, caught};
 use raptorq_lent::constraint_matrix::{self as theirs, enc_indices};
@@ -147,7 +147,7 @@ fn made_up(report: &mut Report, random: &mut Random, count: u64) {
     }
 }
 
-pub fn run(count: u64, seed: u64) -> bool {
+pub fn run(count: u64, seed: u64) -> Found {
     let mut report = Report::new("constraints");
     let mut random = Random::new(seed);
     walks(&mut report, &mut random, count / 2);

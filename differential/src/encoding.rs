@@ -1,6 +1,6 @@
 //! The encoding of one symbol: blocks that the crate encoded, and made-up rows and intermediates against the crate's walk.
 use differential::archive;
-use differential::report::Report;
+use differential::report::{Found, Report};
 use differential::rows::{self, sizes};
 use differential::{Random, caught};
 use raptorq::{ObjectTransmissionInformation, SourceBlockEncoder};
@@ -70,7 +70,7 @@ fn real(report: &mut Report, random: &mut Random) {
     }
 }
 
-pub fn run(count: u64, seed: u64) -> bool {
+pub fn run(count: u64, seed: u64) -> Found {
     let mut report = Report::new("encoding");
     let mut random = Random::new(seed);
     for _ in 0..count / 20 {

@@ -1,6 +1,6 @@
 //! Octets: every pair, every exponent to 1,024, random multiply-adds, and runs of bytes.
 use differential::archive::{self, Answer};
-use differential::report::Report;
+use differential::report::{Found, Report};
 use differential::{Random, caught, values};
 use raptorq::octet::Octet;
 use raptorq::octets;
@@ -95,7 +95,7 @@ fn digests(report: &mut Report) {
     report.case(PRINTED.contains(&quotients), || quotients.clone());
 }
 
-pub fn run(count: u64, seed: u64) -> bool {
+pub fn run(count: u64, seed: u64) -> Found {
     let mut report = Report::new("field");
     let mut random = Random::new(seed);
     pairs(&mut report);

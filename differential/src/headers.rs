@@ -1,6 +1,6 @@
 //! Headers and tuples: ids, transmission information, packets, partitions, degrees, rand, parameter rows, the shift, tuples.
 use differential::archive::{self, Row};
-use differential::report::Report;
+use differential::report::{Found, Report};
 use differential::rows::{self, sizes};
 use differential::{Random, caught, refused_untouched, values};
 use raptorq_lent::base::{self, EncodingPacket, ObjectTransmissionInformation, PayloadId};
@@ -230,7 +230,7 @@ fn tuples(report: &mut Report, random: &mut Random, count: u64, published: &[u32
     rng::lent::lend(None);
 }
 
-pub fn run(count: u64, seed: u64) -> bool {
+pub fn run(count: u64, seed: u64) -> Found {
     let mut report = Report::new("headers");
     let mut random = Random::new(seed);
     let published = rng::lent::published();

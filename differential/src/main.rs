@@ -8,6 +8,8 @@ mod slab;
 mod solver;
 mod vectors;
 
+use differential::report::Found;
+
 fn main() {
     let words: Vec<String> = std::env::args().skip(1).collect();
     if let [command, folder] = words.as_slice() {
@@ -21,19 +23,17 @@ fn main() {
         eprintln!("usage: run AREA [COUNT] [SEED]");
         std::process::exit(2);
     };
-    let areas: [(&str, fn(u64, u64) -> bool); 7] =
+    let areas: [(&str, fn(u64, u64) -> Found); 7] =
         [("field", field::run), ("headers", headers::run), ("matrix", matrix::run), ("slab", slab::run), ("constraints", constraints::run), ("encoding", encoding::run), ("solver", solver::run)];
-    let mut ran = false;
-    let mut same = true;
-    for (name, run) in areas {
-        if area == name || area == "all" {
-            ran = true;
-            same &= run(count, seed);
-        }
-    }
-    if !ran {
+    let chosen: Vec<_> = areas.iter().filter(|(name, _)| area == name || area == "all").collect();
+    if chosen.is_empty() {
         eprintln!("run: there is no area {area}");
         std::process::exit(2);
     }
-    std::process::exit(if same { 0 } else { 1 });
+    Found::head();
+    let all = chosen.iter().fold(Found::default(), |sum, (_, run)| sum.with(run(count, seed)));
+    if chosen.len() > 1 {
+        all.row("all", "");
+    }
+    std::process::exit(if all.differences == 0 { 0 } else { 1 });
 }

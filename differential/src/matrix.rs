@@ -1,6 +1,6 @@
 //! The binary matrix: random sequences of operations on both sides, the whole memory compared after each, stray bits too.
 use differential::archive::{self, Answer, Shape};
-use differential::report::{Report, area};
+use differential::report::{Found, Report, area};
 use differential::{Random, caught, values};
 use raptorq::matrix::{BinaryMatrix, DenseBinaryMatrix};
 use raptorq::octet::Octet;
@@ -189,6 +189,6 @@ fn stores(report: &mut Report, random: &mut Random) {
     report.case(archive::matrix_resize(&mut words, m, large) == Err(2) && words == kept, || format!("{m:?} to {large:?}"));
 }
 
-pub fn run(count: u64, seed: u64) -> bool {
+pub fn run(count: u64, seed: u64) -> Found {
     area("matrix", count, seed, sequence, stores)
 }

@@ -40,22 +40,39 @@ impl Report {
         self.case(same, input);
     }
 
-    /// Prints the area's line; true where there was no difference.
-    pub fn close(self) -> bool {
-        let mut line = format!("{}: {} cases, {} differences", self.area, self.cases, self.differences);
-        for (kind, count) in &self.kinds {
-            line += &format!("; {count} {kind}");
-        }
-        for (rule, count) in &self.named {
-            line += &format!("; {count} as listed under {rule}");
-        }
-        println!("{line}");
-        self.differences == 0
+    /// Prints the area's row of the table.
+    pub fn close(self) -> Found {
+        let kinds = self.kinds.iter().map(|(kind, count)| format!("{count} {kind}"));
+        let rules = self.named.iter().map(|(rule, count)| format!("{count} as {rule}"));
+        let found = Found { cases: self.cases, differences: self.differences };
+        found.row(self.area, &kinds.chain(rules).collect::<Vec<_>>().join("; "));
+        found
+    }
+}
+
+/// What an area, or all of them, came to.
+#[derive(Clone, Copy, Default)]
+pub struct Found {
+    pub cases: u64,
+    pub differences: u64,
+}
+
+impl Found {
+    pub fn head() {
+        println!("{:<12} {:>10} {:>12}  of these", "area", "cases", "differences");
+    }
+
+    pub fn row(self, area: &str, of_these: &str) {
+        println!("{}", format!("{area:<12} {:>10} {:>12}  {of_these}", self.cases, self.differences).trim_end());
+    }
+
+    pub fn with(self, other: Found) -> Found {
+        Found { cases: self.cases + other.cases, differences: self.differences + other.differences }
     }
 }
 
 /// An area of two kinds of cases: `count` of the first, a twentieth as many of the second.
-pub fn area(name: &'static str, count: u64, seed: u64, first: fn(&mut Report, &mut Random), second: fn(&mut Report, &mut Random)) -> bool {
+pub fn area(name: &'static str, count: u64, seed: u64, first: fn(&mut Report, &mut Random), second: fn(&mut Report, &mut Random)) -> Found {
     let mut report = Report::new(name);
     let mut random = Random::new(seed);
     for _ in 0..count {

@@ -1,6 +1,6 @@
 //! The symbol slab: random sequences of operations on both sides, the whole memory compared after each.
 use differential::archive::{self, Answer, Slab};
-use differential::report::{Report, area};
+use differential::report::{Found, Report, area};
 use differential::{Random, caught, values};
 use raptorq::octet::Octet;
 use raptorq::symbol_slab::SymbolSlab;
@@ -121,6 +121,6 @@ fn stores(report: &mut Report, random: &mut Random) {
     report.case(ours(&mut store, many, &order, &step) == Err(2) && store == kept, || format!("{many:?}"));
 }
 
-pub fn run(count: u64, seed: u64) -> bool {
+pub fn run(count: u64, seed: u64) -> Found {
     area("slab", count, seed, sequence, stores)
 }

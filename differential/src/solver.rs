@@ -1,6 +1,6 @@
 //! Solving and display: blocks that the crate encoded, made-up systems against the harness's own elimination, and damaged calls.
 use differential::archive::{self, Arrived, Row, Stores};
-use differential::report::Report;
+use differential::report::{Found, Report};
 use differential::rows::{self, is_prime, sizes};
 use differential::system::{self, Verdict};
 use differential::{Random, values};
@@ -311,7 +311,7 @@ fn display(report: &mut Report, random: &mut Random) {
     report.of("displays without room", answer.err() == displayed(came, rebuilt.len(), i, room).err() && small == [9], said);
 }
 
-pub fn run(count: u64, seed: u64) -> bool {
+pub fn run(count: u64, seed: u64) -> Found {
     let mut report = Report::new("solver");
     let mut random = Random::new(seed);
     for turn in 0..count.div_ceil(1_000_000) {
