@@ -4,7 +4,6 @@ use mathlib.Core.Path.{_≡_, refl, sym, ap, _∙_, subst}
 use mathlib.Core.Bool.{Bool, true, false}
 use mathlib.Core.List.{List}
 use Prim.Native.Nat.{ℕ, _+_, _<_}
-use native.Mathlib.Nat.{zero-add}
 use native.Mathlib.Omega.{arith}
 use lib.Dec.{eqb}
 use lib.ListN.{getD}
@@ -18,6 +17,7 @@ use Rattle.constraints.specs.Encoding.{visits}
 use Rattle.constraints.specs.Ldpc.{adds}
 use Rattle.constraints.specs.Walk.{Walks, places}
 use Rattle.constraints.proofs.Distinct.{places-length, places-lt}
+use Rattle.constraints.proofs.Marks.{walk-held}
 use Rattle.builders.specs.Adding.{only}
 
 -- a test that stands in every term may stand before the sum
@@ -27,7 +27,7 @@ chosen false n f = sum-zero n (λ k h. refl)
 
 module _ (w p p1 : ℕ) (t : Tuple) (s : Walks w p p1) (b : Bounds w p1 t) {old list : List ℕ} (l : Laid (places w p p1 t) old list 0) where
   held : (k : ℕ) → k < t .d + t .d1 → getD list k 0 ≡ getD (places w p p1 t) k 0
-  held k h = ap (λ (i : ℕ). getD list i 0) (sym (zero-add k)) ∙ l .part k (omega (arith, places-length w p p1 t s b))
+  held = walk-held w p p1 t s b l
 
   pub place-lt : (k : ℕ) → k < t .d + t .d1 → getD list k 0 < w + p
   place-lt k h = subst (λ (n : ℕ). n < w + p) (sym (held k h)) (places-lt w p p1 t s b k (omega (arith, places-length w p p1 t s b)))
