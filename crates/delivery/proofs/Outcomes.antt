@@ -29,10 +29,10 @@ use Rattle.delivery.specs.Layout.{rowAt, tablesOf, kOf, tOf, nOf, packet
 use Rattle.delivery.specs.Screen.{screen, stopOf}
 use Rattle.delivery.specs.Received.{Rebuilt, Comes, sourceOctet, deliveredSystem}
 use Rattle.delivery.specs.Words.{Line, Said, Delivered}
-use Rattle.delivery.specs.declared.screen.Stop.{Stop}
-use Rattle.delivery.specs.declared.screen.Stop.the-variants as Stops
-use Rattle.delivery.specs.declared.receiver.Outcome.{Outcome}
-use Rattle.delivery.specs.declared.receiver.Outcome.the-variants.{Object, Contradiction, Open, Stopped}
+use Rattle.delivery.specs.declared.beneath.screen.Stop.{Stop}
+use Rattle.delivery.specs.declared.beneath.screen.Stop.the-variants as Stops
+use Rattle.delivery.specs.declared.beneath.receiver.Outcome.{Outcome}
+use Rattle.delivery.specs.declared.beneath.receiver.Outcome.the-variants.{Object, Contradiction, Open, Stopped}
 use Rattle.delivery.proofs.Screening.{sound}
 
 -- ---- one outcome
