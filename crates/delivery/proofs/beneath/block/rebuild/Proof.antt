@@ -25,10 +25,14 @@ cast-from : tie.Need-cast-from Inv-loop μ-loop
 cast-from c = search needs
 
 mul-from : tie.Need-mul-from Inv-loop μ-loop
-mul-from c = let s = c .before .before .before .before .before in omega (arith, block-ends {i = c .before .loop .i} {m = s .args .k} (s .args .t) (omega arith), s .pre .room)
+mul-from c =
+    let s = c .before .before .before .before .before in
+    omega (arith, block-ends {i = c .before .loop .i} {m = s .args .k} (s .args .t) (omega arith), s .pre .room)
 
 add-end : tie.Need-add-end Inv-loop μ-loop
-add-end c = let s = c .before .before .before .before .before in omega (arith, block-ends {i = c .before .loop .i} {m = s .args .k} (s .args .t) (omega arith), s .pre .room)
+add-end c =
+    let s = c .before .before .before .before .before in
+    omega (arith, block-ends {i = c .before .loop .i} {m = s .args .k} (s .args .t) (omega arith), s .pre .room)
 
 sub-encode : tie.Need-sub-encode Inv-loop μ-loop
 sub-encode c = omega arith
@@ -37,7 +41,9 @@ part-encode-start : tie.Need-part-encode-start Inv-loop μ-loop
 part-encode-start c = omega arith
 
 part-encode-end : tie.Need-part-encode-end Inv-loop μ-loop
-part-encode-end c = let s = c .before .before .before .before .before in omega (arith, block-ends {i = c .before .loop .i} {m = s .args .k} (s .args .t) (omega arith), s .pre .room, c .before .loop .inv .1 .size)
+part-encode-end c =
+    let s = c .before .before .before .before .before in
+    omega (arith, block-ends {i = c .before .loop .i} {m = s .args .k} (s .args .t) (omega arith), s .pre .room, c .before .loop .inv .1 .size)
 
 encode-requires : tie.Need-encode-requires Inv-loop μ-loop
 encode-requires c κs = search needs
@@ -49,7 +55,10 @@ loop-less : tie.Need-loop-less Inv-loop μ-loop
 loop-less c = omega arith
 
 loop-again : tie.Need-loop-again Inv-loop μ-loop
-loop-again c = let s = c .before .before .before .before .before .before .before .before .before in let l = c .before .before .before .before .before .loop in (omega arith, block-more (s .args .tables .now) (s .args .r) (s .args .k) (s .args .t) (l .i) _ (s .args .intermediates .now) _ (s .pre .rules) (s .pre .tables) (s .pre .k-high) (omega arith) (s .pre .t-low) (s .pre .symbols) refl (omega (arith, block-ends {i = l .i} {m = s .args .k} (s .args .t) (omega arith), s .pre .room, l .inv .1 .size)) (l .inv .1) (c .before .before .encode .ensures))
+loop-again c =
+    let s = c .before .before .before .before .before .before .before .before .before in
+    let l = c .before .before .before .before .before .loop in
+    (omega arith, block-more (s .args .tables .now) (s .args .r) (s .args .k) (s .args .t) (l .i) _ (s .args .intermediates .now) _ (s .pre .rules) (s .pre .tables) (s .pre .k-high) (omega arith) (s .pre .t-low) (s .pre .symbols) refl (omega (arith, block-ends {i = l .i} {m = s .args .k} (s .args .t) (omega arith), s .pre .room, l .inv .1 .size)) (l .inv .1) (c .before .before .encode .ensures))
 
 same-length : tie.Need-same-length Inv-loop μ-loop
 same-length c = c .before .loop .inv .1 .size

@@ -25,7 +25,9 @@ get-requires : tie.Need-get-requires
 get-requires c κs = search needs
 
 returns : tie.Need-returns
-returns c = let a = c .before .before .before .args in c .get .ensures ∙ ap idAt (take-all (length (now (a .bytes)) - a .at) (drop (a .at) (now (a .bytes))) (omega (arith, length-drop (a .at) (now (a .bytes)))))
+returns c =
+    let a = c .before .before .before .args in
+    c .get .ensures ∙ ap idAt (take-all (length (now (a .bytes)) - a .at) (drop (a .at) (now (a .bytes))) (omega (arith, length-drop (a .at) (now (a .bytes)))))
 
 pub id-spec : {M : Type 1} → statement M
 id-spec = tie.close (tie.spec sub-get part-get-start part-get-end get-requires returns)

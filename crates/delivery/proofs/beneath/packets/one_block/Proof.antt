@@ -28,7 +28,9 @@ add-id-2 : tie.Need-add-id-2 Inv-loop μ-loop
 add-id-2 c = let s = c .before .before .before in omega (arith, packet-fits (s .args .t) (c .before .loop .i) (omega arith) (omega arith))
 
 id-requires : tie.Need-id-requires Inv-loop μ-loop
-id-requires c κs = let s = c .before .before .before in omega (arith, packet-ends (s .args .t) (c .before .loop .i) (s .args .n) (omega arith))
+id-requires c κs =
+    let s = c .before .before .before in
+    omega (arith, packet-ends (s .args .t) (c .before .loop .i) (s .args .n) (omega arith))
 
 returns : tie.Need-returns Inv-loop μ-loop
 returns c = λ u. c .if1 .taken (ap (λ (p : PayloadId). p .«source_block_number») (c .before .before .id .ensures) ∙ u .first (c .before .before .before .before .loop .i) (omega arith))

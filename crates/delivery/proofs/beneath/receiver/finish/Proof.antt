@@ -23,13 +23,19 @@ same-length : tie.Need-same-length
 same-length c = search needs
 
 returns : tie.Need-returns
-returns c = let a = c .before .before .before .before .before .before .before .before .before .args in finished (a .tables .now) (a .r) (a .k) (a .t) (a .f) (a .intermediates .now) _ _ Verdicts.Solved (c .before .before .before .before .enum-told .given .1) (c .before .before .rebuild .ensures)
+returns c =
+    let a = c .before .before .before .before .before .before .before .before .before .args in
+    finished (a .tables .now) (a .r) (a .k) (a .t) (a .f) (a .intermediates .now) _ _ Verdicts.Solved (c .before .before .before .before .enum-told .given .1) (c .before .before .rebuild .ensures)
 
 returns-2 : tie.Need-returns-2
-returns-2 c = let a = c .before .before .before .before .before .args in finished (a .tables .now) (a .r) (a .k) (a .t) (a .f) (a .intermediates .now) _ _ Verdicts.Contradiction (c .enum-told2 .given .1) refl
+returns-2 c =
+    let a = c .before .before .before .before .before .args in
+    finished (a .tables .now) (a .r) (a .k) (a .t) (a .f) (a .intermediates .now) _ _ Verdicts.Contradiction (c .enum-told2 .given .1) refl
 
 returns-3 : tie.Need-returns-3
-returns-3 c = let a = c .before .before .before .before .before .before .args in finished (a .tables .now) (a .r) (a .k) (a .t) (a .f) (a .intermediates .now) _ _ (Verdicts.Open _) (c .before .v .given .1) refl
+returns-3 c =
+    let a = c .before .before .before .before .before .before .args in
+    finished (a .tables .now) (a .r) (a .k) (a .t) (a .f) (a .intermediates .now) _ _ (Verdicts.Open _) (c .before .v .given .1) refl
 
 pub finish-spec : {M : Type 1} → statement M
 finish-spec =

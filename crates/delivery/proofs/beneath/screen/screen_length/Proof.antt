@@ -18,7 +18,9 @@ sub-if2 : tie.Need-sub-if2
 sub-if2 c = search needs
 
 returns-2 : tie.Need-returns-2
-returns-2 c = let a = c .before .before .before .args in simp (le-ltb _ _ (c .before .before .if1 .left), lt-ltb 360 (a .fixed + countOf (a .len) (a .t)) (omega (arith, c .before .count .ensures)))
+returns-2 c =
+    let a = c .before .before .before .args in
+    simp (le-ltb _ _ (c .before .before .if1 .left), lt-ltb 360 (a .fixed + countOf (a .len) (a .t)) (omega (arith, c .before .count .ensures)))
 
 add-if3 : tie.Need-add-if3
 add-if3 c = search needs
@@ -27,10 +29,14 @@ rem-if3 : tie.Need-rem-if3
 rem-if3 c = search needs
 
 returns-3 : tie.Need-returns-3
-returns-3 c = let a = c .before .before .before .before .args in simp (le-ltb _ _ (c .before .before .before .if1 .left), le-ltb 360 (a .fixed + countOf (a .len) (a .t)) (omega (arith, c .before .before .count .ensures)), ne-eqb _ _ (c .if3 .taken))
+returns-3 c =
+    let a = c .before .before .before .before .args in
+    simp (le-ltb _ _ (c .before .before .before .if1 .left), le-ltb 360 (a .fixed + countOf (a .len) (a .t)) (omega (arith, c .before .before .count .ensures)), ne-eqb _ _ (c .if3 .taken))
 
 returns-4 : tie.Need-returns-4
-returns-4 c = let a = c .before .before .before .before .args in simp (le-ltb _ _ (c .before .before .before .if1 .left), le-ltb 360 (a .fixed + countOf (a .len) (a .t)) (omega (arith, c .before .before .count .ensures)), eq-eqb _ _ (c .if3 .left))
+returns-4 c =
+    let a = c .before .before .before .before .args in
+    simp (le-ltb _ _ (c .before .before .before .if1 .left), le-ltb 360 (a .fixed + countOf (a .len) (a .t)) (omega (arith, c .before .before .count .ensures)), eq-eqb _ _ (c .if3 .left))
 
 pub screen-length-spec : {M : Type 1} → statement M
 screen-length-spec =

@@ -34,16 +34,26 @@ returns : tie.Need-returns
 returns c = stopped-at (c .before .before .screen-length .result) (c .before .before .screen-length .ensures) _ _ (c .enum-told2 .given .1)
 
 count-requires : tie.Need-count-requires
-count-requires c κs = let s = c .before .before .before .before .before .before in let l = length-sound (length (s .args .bytes .now)) (s .args .t) (fixed (s .args .r) (s .args .k)) (all-passed (c .before .before .screen-length .result) (c .before .before .screen-length .ensures) (c .enum-told .given .1)) in (l .whole, s .pre .4)
+count-requires c κs =
+    let s = c .before .before .before .before .before .before in
+    let l = length-sound (length (s .args .bytes .now)) (s .args .t) (fixed (s .args .r) (s .args .k)) (all-passed (c .before .before .screen-length .result) (c .before .before .screen-length .ensures) (c .enum-told .given .1)) in
+    (l .whole, s .pre .4)
 
 one-block-requires : tie.Need-one-block-requires
-one-block-requires c κs = let s = c .before .before .before .before .before .before .before in let l = length-sound (length (s .args .bytes .now)) (s .args .t) (fixed (s .args .r) (s .args .k)) (all-passed (c .before .before .before .screen-length .result) (c .before .before .before .screen-length .ensures) (c .before .enum-told .given .1)) in (packets-in (s .args .t) (c .count .ensures) (l .full), s .pre .4, omega (arith, c .count .ensures, l .few))
+one-block-requires c κs =
+    let s = c .before .before .before .before .before .before .before in
+    let l = length-sound (length (s .args .bytes .now)) (s .args .t) (fixed (s .args .r) (s .args .k)) (all-passed (c .before .before .before .screen-length .result) (c .before .before .before .screen-length .ensures) (c .before .enum-told .given .1)) in
+    (packets-in (s .args .t) (c .count .ensures) (l .full), s .pre .4, omega (arith, c .count .ensures, l .few))
 
 returns-2 : tie.Need-returns-2
-returns-2 c = let s = c .before .before .before .before .before .before .before .before .before in other-block (s .args .bytes .now) (s .args .r) (s .args .k) (s .args .t) (c .before .before .before .before .before .screen-length .result) (c .before .before .before .before .before .screen-length .ensures) (c .before .before .before .enum-told .given .1) (c .before .before .count .result) (c .before .before .count .ensures) (denied (c .before .one-block .result) (c .if1 .taken) (c .before .one-block .ensures))
+returns-2 c =
+    let s = c .before .before .before .before .before .before .before .before .before in
+    other-block (s .args .bytes .now) (s .args .r) (s .args .k) (s .args .t) (c .before .before .before .before .before .screen-length .result) (c .before .before .before .before .before .screen-length .ensures) (c .before .before .before .enum-told .given .1) (c .before .before .count .result) (c .before .before .count .ensures) (denied (c .before .one-block .result) (c .if1 .taken) (c .before .one-block .ensures))
 
 returns-3 : tie.Need-returns-3
-returns-3 c = let s = c .before .before .before .before .before .before .before .before .before in one-block (s .args .bytes .now) (s .args .r) (s .args .k) (s .args .t) (c .before .before .before .before .before .screen-length .result) (c .before .before .before .before .before .screen-length .ensures) (c .before .before .before .enum-told .given .1) (c .before .before .count .result) (c .before .before .count .ensures) (granted (c .before .one-block .result) (c .if1 .left) (c .before .one-block .ensures))
+returns-3 c =
+    let s = c .before .before .before .before .before .before .before .before .before in
+    one-block (s .args .bytes .now) (s .args .r) (s .args .k) (s .args .t) (c .before .before .before .before .before .screen-length .result) (c .before .before .before .before .before .screen-length .ensures) (c .before .before .before .enum-told .given .1) (c .before .before .count .result) (c .before .before .count .ensures) (granted (c .before .one-block .result) (c .if1 .left) (c .before .one-block .ensures))
 
 pub screen-packets-spec : {M : Type 1} → statement M
 screen-packets-spec =

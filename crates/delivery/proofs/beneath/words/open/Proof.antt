@@ -23,28 +23,46 @@ slice-aggregate-copy-2 : tie.Need-slice-aggregate-copy-2
 slice-aggregate-copy-2 c = search needs
 
 copy-requires-2 : tie.Need-copy-requires-2
-copy-requires-2 c κs = let start = c .before .before .before .before .before .before .before .before .before .before in let d = c .before .before .before .before .before .before .before .decimal in omega (arith, fewest-20 (d .result) (start .args .x) (d .ensures .1 .0) (omega (arith, start .fits .x .fits)), d .ensures .0 .1, start .pre, c .before .before .before .before .copy .ensures .size)
+copy-requires-2 c κs =
+    let start = c .before .before .before .before .before .before .before .before .before .before in
+    let d = c .before .before .before .before .before .before .before .decimal in
+    omega (arith, fewest-20 (d .result) (start .args .x) (d .ensures .1 .0) (omega (arith, start .fits .x .fits)), d .ensures .0 .1, start .pre, c .before .before .before .before .copy .ensures .size)
 
 add-copy : tie.Need-add-copy
-add-copy c = let start = c .before .before .before .before .before .before .before .before .before .before .before .before .before .before in let d = c .before .before .before .before .before .before .before .before .before .before .before .decimal in omega (arith, fewest-20 (d .result) (start .args .x) (d .ensures .1 .0) (omega (arith, start .fits .x .fits)), d .ensures .0 .1, start .pre)
+add-copy c =
+    let start = c .before .before .before .before .before .before .before .before .before .before .before .before .before .before in
+    let d = c .before .before .before .before .before .before .before .before .before .before .before .decimal in
+    omega (arith, fewest-20 (d .result) (start .args .x) (d .ensures .1 .0) (omega (arith, start .fits .x .fits)), d .ensures .0 .1, start .pre)
 
 slice-aggregate-copy-3 : tie.Need-slice-aggregate-copy-3
 slice-aggregate-copy-3 c = search needs
 
 copy-requires-3 : tie.Need-copy-requires-3
-copy-requires-3 c κs = let start = c .before .before .before .before .before .before .before .before .before .before .before .before .before .before .before in let d = c .before .before .before .before .before .before .before .before .before .before .before .before .decimal in omega (arith, fewest-20 (d .result) (start .args .x) (d .ensures .1 .0) (omega (arith, start .fits .x .fits)), d .ensures .0 .1, start .pre, c .before .before .before .before .before .before .before .before .before .copy .ensures .size, c .before .before .before .before .copy2 .ensures .size)
+copy-requires-3 c κs =
+    let start = c .before .before .before .before .before .before .before .before .before .before .before .before .before .before .before in
+    let d = c .before .before .before .before .before .before .before .before .before .before .before .before .decimal in
+    omega (arith, fewest-20 (d .result) (start .args .x) (d .ensures .1 .0) (omega (arith, start .fits .x .fits)), d .ensures .0 .1, start .pre, c .before .before .before .before .before .before .before .before .before .copy .ensures .size, c .before .before .before .before .copy2 .ensures .size)
 
 add-result : tie.Need-add-result
-add-result c = let start = c .before .before .before .before .before .before .before .before .before .before .before .before .before .before .before .before .before .before in let d = c .before .before .before .before .before .before .before .before .before .before .before .before .before .before .before .decimal in omega (arith, fewest-20 (d .result) (start .args .x) (d .ensures .1 .0) (omega (arith, start .fits .x .fits)), d .ensures .0 .1, start .pre)
+add-result c =
+    let start = c .before .before .before .before .before .before .before .before .before .before .before .before .before .before .before .before .before .before in
+    let d = c .before .before .before .before .before .before .before .before .before .before .before .before .before .before .before .decimal in
+    omega (arith, fewest-20 (d .result) (start .args .x) (d .ensures .1 .0) (omega (arith, start .fits .x .fits)), d .ensures .0 .1, start .pre)
 
 add-result-2 : tie.Need-add-result-2
-add-result-2 c = let start = c .before .before .before .before .before .before .before .before .before .before .before .before .before .before .before .before .before .before in let d = c .before .before .before .before .before .before .before .before .before .before .before .before .before .before .before .decimal in omega (arith, fewest-20 (d .result) (start .args .x) (d .ensures .1 .0) (omega (arith, start .fits .x .fits)), d .ensures .0 .1, start .pre)
+add-result-2 c =
+    let start = c .before .before .before .before .before .before .before .before .before .before .before .before .before .before .before .before .before .before in
+    let d = c .before .before .before .before .before .before .before .before .before .before .before .before .before .before .before .decimal in
+    omega (arith, fewest-20 (d .result) (start .args .x) (d .ensures .1 .0) (omega (arith, start .fits .x .fits)), d .ensures .0 .1, start .pre)
 
 same-length : tie.Need-same-length
 same-length c = search needs
 
 returns : tie.Need-returns
-returns c = let start = c .before .before .before .before .before .before .before .before .before .before .before .before .before .before .before .before .before .before in let d = c .before .before .before .before .before .before .before .before .before .before .before .before .before .before .before .decimal in open-laid _ (start .args .x) (d .result) (start .pre) (omega (arith, start .fits .x .fits)) (d .ensures .1 .0) (d .ensures .1 .1) (d .ensures .0 .1) (c .before .before .before .before .before .before .before .before .before .before .before .before .copy .ensures) (c .before .before .before .before .before .before .before .copy2 .ensures) (c .before .before .copy3 .ensures)
+returns c =
+    let start = c .before .before .before .before .before .before .before .before .before .before .before .before .before .before .before .before .before .before in
+    let d = c .before .before .before .before .before .before .before .before .before .before .before .before .before .before .before .decimal in
+    open-laid _ (start .args .x) (d .result) (start .pre) (omega (arith, start .fits .x .fits)) (d .ensures .1 .0) (d .ensures .1 .1) (d .ensures .0 .1) (c .before .before .before .before .before .before .before .before .before .before .before .before .copy .ensures) (c .before .before .before .before .before .before .before .copy2 .ensures) (c .before .before .copy3 .ensures)
 
 pub open-spec : {M : Type 1} → statement M
 open-spec =
