@@ -28,10 +28,11 @@ use Rattle.solver.proofs.Holding.{row-arrival, byte-arrival}
 use Rattle.delivery.specs.Layout.{rowAt, tablesOf, kOf, tOf, nOf, packetAt, esiAt, octetAt, esisOf, symbolsOf}
 use Rattle.delivery.specs.Screen.{screen, stopOf}
 use Rattle.delivery.specs.Received.{Rebuilt, Comes, sourceOctet, deliveredSystem}
-use Rattle.delivery.specs.declared.screen.Stop.{Stop}
-use Rattle.delivery.specs.declared.screen.Stop.the-variants as Stops
-use Rattle.delivery.specs.declared.receiver.Outcome.{Outcome}
-use Rattle.delivery.specs.declared.receiver.Outcome.the-variants.{Object, Contradiction, Open, Stopped}
+use Rattle.delivery.specs.Words.{Line, Said, Delivered}
+use Rattle.delivery.specs.declared.beneath.screen.Stop.{Stop}
+use Rattle.delivery.specs.declared.beneath.screen.Stop.the-variants as Stops
+use Rattle.delivery.specs.declared.beneath.receiver.Outcome.{Outcome}
+use Rattle.delivery.specs.declared.beneath.receiver.Outcome.the-variants.{Object, Contradiction, Open, Stopped}
 use Rattle.delivery.proofs.Screening.{sound}
 
 -- ---- one outcome
@@ -90,6 +91,22 @@ comes-once d xs ys zs (Stopped v) Contradiction a b = absurd (given-not-refused 
 comes-once d xs ys zs (Stopped v) (Open s) a b = absurd (given-not-refused tt (stopOf v) (sym (b .0) ∙ a .0))
 comes-once d xs ys zs (Stopped v) (Stopped w) a b =
     (ap Stopped (stop-only v w (refused-only (stopOf v) (stopOf w) (sym (a .0) ∙ b .0))), a .1 ∙ sym (b .1))
+
+-- and so with what is written of it
+line-once : {ws xs ys zs : List ℕ} {r s : ℕ} → Line ws xs ys r → Line ws xs zs s → (r ≡ s) × (ys ≡ zs)
+line-once a b = (a .count ∙ sym (b .count), written-once (a .laid) (b .laid))
+
+said-once : (xs ys zs : List ℕ) (r s : ℕ) (o : Outcome) → Said xs ys r o → Said xs zs s o → (r ≡ s) × (ys ≡ zs)
+said-once xs ys zs r s (Object n) a b = (a .0 ∙ sym (b .0), a .1 ∙ sym (b .1))
+said-once xs ys zs r s Contradiction a b = line-once a b
+said-once xs ys zs r s (Open n) a b = line-once a b
+said-once xs ys zs r s (Stopped w) a b = line-once a b
+
+pub delivered-once : {d xs ys zs : List ℕ} {r s : ℕ} → Delivered d xs ys r → Delivered d xs zs s → (r ≡ s) × (ys ≡ zs)
+delivered-once {d} {xs} {ys} {zs} {r} {s} a b =
+    let e = comes-once d xs (a .between) (b .between) (a .outcome) (b .outcome) (a .comes) (b .comes) in
+    let u = subst (λ (o : Outcome). Said (b .between) zs s o) (sym (e .0)) (b .said) in
+    said-once (a .between) ys zs r s (a .outcome) (a .said) (subst (λ (m : List ℕ). Said m zs s (a .outcome)) (sym (e .1)) u)
 
 -- ---- an input that fills the program's store of 375,236 bytes
 

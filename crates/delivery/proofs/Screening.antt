@@ -22,9 +22,9 @@ use Rattle.headers.proofs.Tests.{Tells, tells-eq, tells-both, tells-as, is-true
 use Rattle.solver.specs.System.{fixed}
 use Rattle.delivery.specs.Layout.{OneBlock, infoOf, rowAt, tOf, kOf, countOf, packet, packetAt}
 use Rattle.delivery.specs.Screen.{screened, oneBlock, shapeScreen, infoScreen, rowScreen, lengthScreen, packetsScreen, restScreen, screen}
-use Rattle.delivery.specs.declared.screen.Stop.{Stop}
-use Rattle.delivery.specs.declared.screen.Screened.{Screened}
-use Rattle.delivery.specs.declared.screen.Screened.the-variants as Screeneds
+use Rattle.delivery.specs.declared.beneath.screen.Stop.{Stop}
+use Rattle.delivery.specs.declared.beneath.screen.Screened.{Screened}
+use Rattle.delivery.specs.declared.beneath.screen.Screened.the-variants as Screeneds
 
 -- an answer that tells of what stands first
 module _ {p : Outcome (Unit {0})} (x : Screened) (q : screened x ≡ p) where

@@ -32,8 +32,8 @@ use Rattle.delivery.specs.Layout.{rowAt, entryAt, tablesOf, fOf, kOf, tO
 use Rattle.delivery.specs.Screen.{screen}
 use Rattle.delivery.specs.Words.{Line, Said}
 use Rattle.delivery.specs.Received.{Comes, Holdable, Leaves, Settles, Settled, outcomeOf}
-use Rattle.delivery.specs.declared.receiver.Outcome.{Outcome}
-use Rattle.delivery.specs.declared.receiver.Outcome.the-variants as Outcomes
+use Rattle.delivery.specs.declared.beneath.receiver.Outcome.{Outcome}
+use Rattle.delivery.specs.declared.beneath.receiver.Outcome.the-variants as Outcomes
 use Rattle.delivery.proofs.Lists.{tabulated}
 use Rattle.delivery.proofs.Screening.{Sound, sound, packets-in}
 use Rattle.delivery.proofs.Gathering.{esi-small}

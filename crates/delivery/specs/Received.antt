@@ -16,8 +16,8 @@ use Rattle.solver.specs.declared.verdict.Verdict.{Verdict}
 use Rattle.solver.specs.declared.verdict.Verdict.the-variants as Verdicts
 use Rattle.delivery.specs.Layout.{rowAt, tablesOf, fOf, kOf, tOf, esisOf, symbolsOf}
 use Rattle.delivery.specs.Screen.{screen, stopOf}
-use Rattle.delivery.specs.declared.receiver.Outcome.{Outcome}
-use Rattle.delivery.specs.declared.receiver.Outcome.the-variants.{Object, Contradiction, Open, Stopped}
+use Rattle.delivery.specs.declared.beneath.receiver.Outcome.{Outcome}
+use Rattle.delivery.specs.declared.beneath.receiver.Outcome.the-variants.{Object, Contradiction, Open, Stopped}
 
 -- byte x of the source symbols, one after the other: the ISIs below K are theirs (RFC 6330, 5.3.3.4.2 and 5.3.5.3)
 abbrev pub sourceOctet : List ℕ → Row → ℕ → List ℕ → ℕ → ℕ

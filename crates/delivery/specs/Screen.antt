@@ -13,10 +13,10 @@ use Rattle.headers.specs.declared.row.Row.{Row}
 use Rattle.headers.specs.declared.transmission.ObjectTransmissionInformation.{ObjectTransmissionInformation}
 use Rattle.solver.specs.System.{fixed}
 use Rattle.delivery.specs.Layout.{infoOf, rowAt, tOf, kOf, countOf, packet, packetAt}
-use Rattle.delivery.specs.declared.screen.Stop.{Stop}
-use Rattle.delivery.specs.declared.screen.Stop.the-variants as Stops
-use Rattle.delivery.specs.declared.screen.Screened.{Screened}
-use Rattle.delivery.specs.declared.screen.Screened.the-variants as Screeneds
+use Rattle.delivery.specs.declared.beneath.screen.Stop.{Stop}
+use Rattle.delivery.specs.declared.beneath.screen.Stop.the-variants as Stops
+use Rattle.delivery.specs.declared.beneath.screen.Screened.{Screened}
+use Rattle.delivery.specs.declared.beneath.screen.Screened.the-variants as Screeneds
 
 -- document 01's numbers, and three above them for what this program alone does not take
 abbrev pub stopOf : Stop → ℕ

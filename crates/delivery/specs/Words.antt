@@ -11,10 +11,10 @@ use Rattle.headers.specs.Bytes.{Laid}
 use Rattle.header_text.specs.Text.{spelled}
 use Rattle.field.specs.declared.refusal.Refusal.{Refusal}
 use Rattle.field.specs.declared.refusal.Refusal.the-variants as Why
-use Rattle.delivery.specs.declared.screen.Stop.{Stop}
-use Rattle.delivery.specs.declared.screen.Stop.the-variants as Stops
-use Rattle.delivery.specs.declared.receiver.Outcome.{Outcome}
-use Rattle.delivery.specs.declared.receiver.Outcome.the-variants.{Object, Contradiction, Open, Stopped}
+use Rattle.delivery.specs.declared.beneath.screen.Stop.{Stop}
+use Rattle.delivery.specs.declared.beneath.screen.Stop.the-variants as Stops
+use Rattle.delivery.specs.declared.beneath.receiver.Outcome.{Outcome}
+use Rattle.delivery.specs.declared.beneath.receiver.Outcome.the-variants.{Object, Contradiction, Open, Stopped}
 use Rattle.delivery.specs.Received.{Comes}
 
 -- a text in ASCII

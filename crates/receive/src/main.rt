@@ -1,5 +1,5 @@
 // Reads a delivery on standard input and writes its source block, or one line that says why not (docs/DELIVERY.md).
-use delivery::deliver;
+use delivery::beneath::deliver;
 use libc::STDIN_FILENO;
 use libc::STDOUT_FILENO;
 

@@ -1,5 +1,5 @@
 // The receiving program's work on each delivery of data/, which differential/samples makes, with what each has to come to (`stdout`).
-use delivery::deliver;
+use delivery::beneath::deliver;
 use libc::STDOUT_FILENO;
 
 fn sample(name: &[u8]) {

@@ -1,0 +1,37 @@
+-- `delivery::beneath::layout::row` meets its contract.
+-- Assumes nothing.
+use Rattle.delivery.specs.Layout.{rowAt}
+use Rattle.delivery.proofs.Lists.{row-is}
+use borrow.Author.Needs.{needs}
+use Rattle.delivery.proofs.beneath.layout.row.Statement.{statement}
+use Rattle.delivery.proofs.beneath.layout.row.Tie as tie
+
+word-requires : tie.Need-word-requires
+word-requires c κs = search needs
+
+word-requires-2 : tie.Need-word-requires-2
+word-requires-2 c κs = search needs
+
+word-requires-3 : tie.Need-word-requires-3
+word-requires-3 c κs = search needs
+
+word-requires-4 : tie.Need-word-requires-4
+word-requires-4 c κs = search needs
+
+word-requires-5 : tie.Need-word-requires-5
+word-requires-5 c κs = search needs
+
+returns : tie.Need-returns
+unfolding rowAt
+returns c = row-is (c .before .before .before .before .word .ensures) (c .before .before .before .word2 .ensures) (c .before .before .word3 .ensures) (c .before .word4 .ensures) (c .word5 .ensures)
+
+pub row-spec : {M : Type 1} → statement M
+row-spec =
+    tie.close
+    (tie.spec
+    word-requires
+    word-requires-2
+    word-requires-3
+    word-requires-4
+    word-requires-5
+    returns)

@@ -1,0 +1,135 @@
+// May a delivery be taken? The first thing that is wrong, in the order in which its bytes are read.
+ghost use mathlib.Core.Path.{_≡_};
+ghost use Prim.Native.Nat.{_≤_, _<_};
+ghost use lib.ListN.{length};
+ghost use Rattle.headers.specs.Row.{Obeys, lOf};
+ghost use Rattle.delivery.specs.Screen.{infoScreen, lengthScreen, packetsScreen, restScreen, rowScreen, screen as Screen·screen, screened, shapeScreen};
+use crate::beneath::layout;
+use crate::beneath::packets;
+use field::refusal;
+use field::refusal::Refusal;
+use headers::beneath::row;
+use headers::beneath::util;
+use headers::row::Row;
+use headers::transmission;
+use headers::transmission::ObjectTransmissionInformation;
+
+// Why not: a refusal of document 01, or what this program alone does not take.
+pub enum Stop {
+    Refused(Refusal),
+    TooLarge,
+    SeveralBlocks,
+    OtherBlock,
+}
+
+pub enum Screened {
+    Passed,
+    Stopped(Stop),
+}
+
+fn screen_shape(o: ObjectTransmissionInformation) -> Screened
+    ensures { λ a. ⌜ screened a ≡ shapeScreen o ⌝ }
+{
+    if o.num_source_blocks != 1 {
+        return Screened::Stopped(Stop::SeveralBlocks);
+    }
+    if o.num_sub_blocks != 1 {
+        return Screened::Stopped(Stop::SeveralBlocks);
+    }
+    if o.symbol_size == 0 {
+        return Screened::Stopped(Stop::Refused(Refusal::BadSize));
+    }
+    Screened::Passed
+}
+
+fn screen_info(o: ObjectTransmissionInformation) -> Screened
+    ensures { λ a. ⌜ screened a ≡ infoScreen o ⌝ }
+{
+    let fine = transmission::check(o);
+    match fine {
+        refusal::Answer::Done => screen_shape(o),
+        refusal::Answer::Refused(why) => Screened::Stopped(Stop::Refused(why)),
+    }
+}
+
+fn screen_row(r: Row, k: u64, t: u16) -> Screened
+    ensures { λ a. ⌜ screened a ≡ rowScreen r k t ⌝ }
+{
+    if !row::obeys(r) {
+        return Screened::Stopped(Stop::Refused(Refusal::BadRow));
+    }
+    if k < 1 {
+        return Screened::Stopped(Stop::Refused(Refusal::BadCount));
+    }
+    if k > r.k as u64 {
+        return Screened::Stopped(Stop::Refused(Refusal::BadCount));
+    }
+    if t > 1024 {
+        return Screened::Stopped(Stop::TooLarge);
+    }
+    if row::l(r) > 300 {
+        return Screened::Stopped(Stop::TooLarge);
+    }
+    Screened::Passed
+}
+
+// `len` bytes in all, and `fixed` equations beside those of the packets.
+fn screen_length(len: usize, t: usize, fixed: usize) -> Screened
+    requires { ⌜ (t < 65536) × (fixed ≤ 360) ⌝ }
+    ensures { λ a. ⌜ screened a ≡ lengthScreen len t fixed ⌝ }
+{
+    if len < 4128 {
+        return Screened::Stopped(Stop::Refused(Refusal::BadTables));
+    }
+    if packets::count(len, t) > 360 - fixed {
+        return Screened::Stopped(Stop::TooLarge);
+    }
+    if (len - 4128) % (t + 4) != 0 {
+        return Screened::Stopped(Stop::Refused(Refusal::BadSize));
+    }
+    Screened::Passed
+}
+
+fn screen_packets(bytes: &[u8], r: Row, k: u32, t: usize) -> Screened
+    requires { ⌜ Obeys r × (1 ≤ k) × (k ≤ r .k) × (lOf r ≤ 300) × (t < 65536) ⌝ }
+    ensures { λ a. ⌜ screened a ≡ packetsScreen (now (bytes .entry)) r k t ⌝ }
+{
+    let len = bytes.len();
+    let fixed = (r.s + r.h + (r.k - k)) as usize;
+    let fine = screen_length(len, t, fixed);
+    let Screened::Passed = fine else {
+        return fine;
+    };
+    if !packets::one_block(bytes, t, packets::count(len, t)) {
+        return Screened::Stopped(Stop::OtherBlock);
+    }
+    Screened::Passed
+}
+
+fn screen_rest(bytes: &[u8], k: u64, t: u16) -> Screened
+    requires { ⌜ 32 ≤ length (now bytes) ⌝ }
+    ensures { λ a. ⌜ screened a ≡ restScreen (now (bytes .entry)) k t ⌝ }
+{
+    let r = layout::row(bytes);
+    let fine = screen_row(r, k, t);
+    let Screened::Passed = fine else {
+        return fine;
+    };
+    screen_packets(bytes, r, k as u32, t as usize)
+}
+
+pub fn screen(bytes: &[u8]) -> Screened
+    ensures { λ a. ⌜ screened a ≡ Screen·screen (now (bytes .entry)) ⌝ }
+{
+    if bytes.len() < 32 {
+        return Screened::Stopped(Stop::Refused(Refusal::WrongLength));
+    }
+    let o = layout::info(bytes);
+    let fine = screen_info(o);
+    let Screened::Passed = fine else {
+        return fine;
+    };
+    let t = o.symbol_size;
+    let k = util::int_div_ceil(o.transfer_length, t as u64);
+    screen_rest(bytes, k, t)
+}

@@ -1,0 +1,76 @@
+// What comes of a delivery that gives no object, in one line of words at the front of a lent store.
+ghost use mathlib.Core.Path.{_≡_};
+ghost use Prim.Native.Nat.{_≤_};
+ghost use lib.ListN.{length};
+ghost use Rattle.delivery.specs.Words.{Line, openWords, refusalWords, stopWords};
+use crate::beneath::screen::Stop;
+use field::refusal::Refusal;
+use headers::beneath::big_endian;
+
+pub fn line(out: &mut [u8], words: &[u8]) -> usize
+    requires { ⌜ length (now words) ≤ length (now out) ⌝ }
+    ensures { λ r. ⌜ Line (now (words .entry)) (now (out .entry)) (now (out .exit)) r ⌝ }
+{
+    big_endian::copy(out, 0, words);
+    words.len()
+}
+
+fn refused(out: &mut [u8], why: Refusal) -> usize
+    requires { ⌜ 200 ≤ length (now out) ⌝ }
+    ensures { λ r. ⌜ Line (refusalWords why) (now (out .entry)) (now (out .exit)) r ⌝ }
+{
+    match why {
+        Refusal::DivisorZero => line(out, b"refused 1: an octet is divided by 0\n"),
+        Refusal::OutOfRange => line(out, b"refused 2: a number is outside its range\n"),
+        Refusal::BadTransmission => line(
+            out,
+            b"refused 3: the transmission information breaks its rules\n",
+        ),
+        Refusal::BadRow => line(out, b"refused 4: the parameter row breaks its rules\n"),
+        Refusal::BadTables => line(out, b"refused 5: the random tables are not 1,024 numbers\n"),
+        Refusal::Outside => line(out, b"refused 6: a place is outside\n"),
+        Refusal::SamePlace => line(out, b"refused 7: destination and source are one\n"),
+        Refusal::WrongLength => line(out, b"refused 8: the delivery ends in its first 32 bytes\n"),
+        Refusal::BadCount => line(
+            out,
+            b"refused 9: the count of source symbols is not from 1 to K'\n",
+        ),
+        Refusal::BadSize => line(
+            out,
+            b"refused 10: the symbol size is 0, or the last packet is not whole\n",
+        ),
+    }
+}
+
+pub fn stopped(out: &mut [u8], why: Stop) -> usize
+    requires { ⌜ 200 ≤ length (now out) ⌝ }
+    ensures { λ r. ⌜ Line (stopWords why) (now (out .entry)) (now (out .exit)) r ⌝ }
+{
+    match why {
+        Stop::Refused(w) => refused(out, w),
+        Stop::TooLarge => line(
+            out,
+            b"too large for this program: T is at most 1,024, L at most 300, the equations at most 360\n",
+        ),
+        Stop::SeveralBlocks => line(
+            out,
+            b"several blocks: this program takes one source block of one sub-block\n",
+        ),
+        Stop::OtherBlock => line(
+            out,
+            b"another block: a packet has a block number other than 0\n",
+        ),
+    }
+}
+
+pub fn open(out: &mut [u8], x: u32) -> usize
+    requires { ⌜ 200 ≤ length (now out) ⌝ }
+    ensures { λ r. ⌜ Line (openWords x) (now (out .entry)) (now (out .exit)) r ⌝ }
+{
+    let mut digits = [0u8; 20];
+    let k = io::decimal(x as u64, &mut digits);
+    big_endian::copy(out, 0, b"open, ");
+    big_endian::copy(out, 6, &digits[..k]);
+    big_endian::copy(out, 6 + k, b" more independent packets at least\n");
+    6 + k + 35
+}
