@@ -297,7 +297,7 @@ uint32_t spoonripple_encode(uint32_t k, uint32_t j, uint32_t s, uint32_t h, uint
  * Lent: rows and values are scratch of any content, M * L and M * t octets, where M = S + H + K' - count + n; out is L * t octets.
  * Writes: after each answer that is no refusal the first M * L octets of rows and M * t of values are 0. The first L * t octets of
  * out are written only with SPOONRIPPLE_DONE, shortfall[0] only with SPOONRIPPLE_OPEN.
- * About 132 KiB of stack are used, whatever the row. */
+ * About 140 KiB of stack are used, whatever the row. */
 uint32_t spoonripple_solve(uint32_t k, uint32_t j, uint32_t s, uint32_t h, uint32_t w, const uint32_t *tables, size_t tables_len,
                            uint32_t count, uint16_t t, const uint32_t *esis, size_t esis_len, const uint8_t *symbols, size_t symbols_len,
                            uint8_t *rows, size_t rows_len, uint8_t *values, size_t values_len, uint8_t *out, size_t out_len,
