@@ -13,7 +13,7 @@
  * Answers
  *   The result is SPOONRIPPLE_DONE, or the number of a refusal in docs/01-scope.md; spoonripple_solve has two more answers.
  *   Each call lists its refusals in the order in which they are tested: the first that applies is the answer.
- *   A call that refuses has changed nothing that it was lent. It holds no memory, keeps no pointer and has no state: calls
+ *   A call that refuses has changed nothing that it was lent. No call holds memory, keeps a pointer or has a state: calls
  *   from many threads on memory of their own are independent.
  *   Values go to the front of `out`, which needs room for all of them; a longer slice is taken, and its rest stays. The same
  *   holds for every store and list.
@@ -53,7 +53,8 @@ extern "C" {
 #define SPOONRIPPLE_SAME_PLACE 7
 /* A lent part is too short, or not of its exact length where one is named. */
 #define SPOONRIPPLE_WRONG_LENGTH 8
-/* An ESI of 2^24 or more, K not in 1..K', more than 65,535 ids or arrivals, too few ids for a builder. */
+/* An ESI of 2^24 or more, K not in 1..K' (1..56,403 where no row is lent), more than 65,535 ids or arrivals, too few ids for
+ * a builder. */
 #define SPOONRIPPLE_BAD_COUNT 9
 /* Symbol size 0, or symbols that are not T octets each. */
 #define SPOONRIPPLE_BAD_SIZE 10
@@ -278,7 +279,7 @@ uint32_t spoonripple_constraint_matrix_no_hdpc(uint32_t k, uint32_t j, uint32_t 
 /* The symbol of an ESI of a block of count source symbols of t octets, from its L intermediate symbols, L * t octets. For an
  * ESI below count that is a source symbol.
  * Refusals: 4 (the row), 5 (the tables), 9 (count not in 1..K'), 9 (esi of 2^24 or more), 10 (t is 0), 8 (intermediates below
- * L * t octets), 8 (out below t octets). Writes the first t octets of out. */
+ * L * t octets), 8 (out below t octets), 8 (a walk of more than 32 places, which no ESI has). Writes the first t octets of out. */
 uint32_t spoonripple_encode(uint32_t k, uint32_t j, uint32_t s, uint32_t h, uint32_t w, const uint32_t *tables, size_t tables_len,
                             uint32_t count, uint16_t t, uint32_t esi, const uint8_t *intermediates, size_t intermediates_len,
                             uint8_t *out, size_t out_len);
@@ -303,12 +304,12 @@ uint32_t spoonripple_solve(uint32_t k, uint32_t j, uint32_t s, uint32_t h, uint3
                            uint8_t *rows, size_t rows_len, uint8_t *values, size_t values_len, uint8_t *out, size_t out_len,
                            uint64_t *shortfall, size_t shortfall_len);
 
-/* Where source symbol i of a block of k source symbols of t octets is displayed from: out[0] is 0 for the arrivals, of which the
- * first with ESI i counts, and 1 for the rebuilt store of k * t octets; out[1] is where its t octets begin there. Of the two
- * stores only the lengths matter.
- * Refusals: 9 (k not in 1..56,403), 9 (more than 65,535 ESIs), 9 (an ESI of 2^24 or more), 10 (t is 0), 10 (arrivals_len is not
- * esis_len * t), 8 (rebuilt below k * t octets), 8 (out below 2 places), 6 (i is k or more). Writes out[0] and out[1]. */
-uint32_t spoonripple_display(uint32_t k, uint16_t t, const uint32_t *esis, size_t esis_len, const uint8_t *arrivals, size_t arrivals_len,
+/* Where source symbol i of a block of count source symbols of t octets is displayed from: out[0] is 0 for the arrivals, of which
+ * the first with ESI i counts, and 1 for the rebuilt store of count * t octets; out[1] is where its t octets begin there. Of the
+ * two stores only the lengths matter.
+ * Refusals: 9 (count not in 1..56,403), 9 (more than 65,535 ESIs), 9 (an ESI of 2^24 or more), 10 (t is 0), 10 (arrivals_len is
+ * not esis_len * t), 8 (rebuilt below count * t octets), 8 (out below 2 places), 6 (i is count or more). Writes out[0] and out[1]. */
+uint32_t spoonripple_display(uint32_t count, uint16_t t, const uint32_t *esis, size_t esis_len, const uint8_t *arrivals, size_t arrivals_len,
                              const uint8_t *rebuilt, size_t rebuilt_len, uint32_t i, uint64_t *out, size_t out_len);
 
 #ifdef __cplusplus

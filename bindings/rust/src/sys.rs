@@ -48,5 +48,5 @@ unsafe extern "C" {
     pub fn spoonripple_constraint_matrix_no_hdpc(k: u32, j: u32, s: u32, h: u32, w: u32, tables: *const u32, tables_len: usize, isis: *const u32, isis_len: usize, words: *mut u64, words_len: usize) -> u32;
     pub fn spoonripple_encode(k: u32, j: u32, s: u32, h: u32, w: u32, tables: *const u32, tables_len: usize, count: u32, t: u16, esi: u32, intermediates: *const u8, intermediates_len: usize, out: *mut u8, out_len: usize) -> u32;
     pub fn spoonripple_solve(k: u32, j: u32, s: u32, h: u32, w: u32, tables: *const u32, tables_len: usize, count: u32, t: u16, esis: *const u32, esis_len: usize, symbols: *const u8, symbols_len: usize, rows: *mut u8, rows_len: usize, values: *mut u8, values_len: usize, out: *mut u8, out_len: usize, shortfall: *mut u64, shortfall_len: usize) -> u32;
-    pub fn spoonripple_display(k: u32, t: u16, esis: *const u32, esis_len: usize, arrivals: *const u8, arrivals_len: usize, rebuilt: *const u8, rebuilt_len: usize, i: u32, out: *mut u64, out_len: usize) -> u32;
+    pub fn spoonripple_display(count: u32, t: u16, esis: *const u32, esis_len: usize, arrivals: *const u8, arrivals_len: usize, rebuilt: *const u8, rebuilt_len: usize, i: u32, out: *mut u64, out_len: usize) -> u32;
 }

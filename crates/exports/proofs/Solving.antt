@@ -3,7 +3,7 @@
 use mathlib.Core.Path.{_≡_, refl, sym, ap, _∙_, subst}
 use mathlib.Core.Bool.{Bool, true, false, not}
 use mathlib.Core.List.{List, [], _++_}
-use Prim.Native.Nat.{ℕ, _+_, _*_, _≤_, _<_}
+use Prim.Native.Nat.{ℕ, _*_, _≤_, _<_}
 use native.Mathlib.Nat.{mul-le-mul}
 use native.Mathlib.Omega.{arith}
 use borrow.Author.Tests.{lt-ltb, le-ltb, lt-leb, ltb-false, eqb-false, not-false}
@@ -102,7 +102,7 @@ module _ (out : List ℕ) (p : Place) where
   ends false false true e = refl
   ends false false false e = placed e
 
--- nothing is placed without room
+-- a slice without room, taken for a rebuilt store without room, is refused in 8's place
 pub display-room : (k t : ℕ) (es : List ℕ) (came built i : ℕ) (out : List ℕ)
     → displayed k t es came built i out ≡ thenRoomed out (listed placeNumbers (located k t es came (pick (ltb (length out) 2) 0 built) i))
 display-room k t es came built i out =

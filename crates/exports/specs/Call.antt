@@ -50,10 +50,11 @@ pub record Did {A : Type 0} (o : Outcome A) (xs ys : List ℕ) (P : Type 0) (r :
   pub answer : r ≡ code o
   pub memory : Left o xs ys P
 
--- a call that lists answered r, made `list'` of the slice for the list and `out'` of the one for its length
+-- what is told of a list besides: how many places were written
 abbrev pub many : List ℕ → List ℕ
 many l = one (length l)
 
+-- a call that lists answered r, made `list'` of the slice for the list and `out'` of the one for its length
 pub record Listing (o : Outcome (List ℕ)) (list list' out out' : List ℕ) (r : ℕ) : Type 0 where
   pub places : Called o list list' r
   pub told : Called (listed many o) out out' r

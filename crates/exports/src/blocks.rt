@@ -122,10 +122,10 @@ fn measured(built: usize, room: usize) -> usize
     built
 }
 
-// Values: 0 where source symbol i stands among the arrivals, 1 where in the rebuilt store, and where its t bytes begin there.
+// Values, of source symbol i of a block of `count`: 0 if it stands among the arrivals, 1 if in the rebuilt store, and where its t bytes begin there.
 #[no_mangle]
 pub extern "C" fn spoonripple_display(
-    k: u32,
+    count: u32,
     t: u16,
     esis: &[u32],
     arrivals: &[u8],
@@ -133,10 +133,10 @@ pub extern "C" fn spoonripple_display(
     i: u32,
     out: &mut [u64],
 ) -> u32
-    ensures { λ r. ⌜ Called (displayed k t (now (esis .entry)) (length (now (arrivals .entry))) (length (now (rebuilt .entry))) i (now (out .entry))) (now (out .entry)) (now (out .exit)) r ⌝ }
+    ensures { λ r. ⌜ Called (displayed count t (now (esis .entry)) (length (now (arrivals .entry))) (length (now (rebuilt .entry))) i (now (out .entry))) (now (out .entry)) (now (out .exit)) r ⌝ }
 {
     let built = measured(rebuilt.len(), out.len());
-    match locate(k, t, esis, arrivals.len(), built, i) {
+    match locate(count, t, esis, arrivals.len(), built, i) {
         Shown::Arrived(from) => {
             let values = [0, from as u64];
             hand(&values, out)

@@ -1,5 +1,4 @@
 // Symbols in lent bytes (document 01, 'Matrices and slab'): `count` symbols of t bytes, an order of length 0 or the count.
-ghost use mathlib.Core.Path.{_≡_};
 ghost use Prim.Native.Nat.{_*_};
 ghost use lib.Dec.{ltb};
 ghost use lib.ListN.{length};

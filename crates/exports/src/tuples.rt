@@ -1,5 +1,4 @@
 // Rand, degrees, parameter rows, the shift and tuples (RFC 6330, sections 5.3.5, 5.5 and 5.6). A row is its five numbers K', J, S, H, W.
-ghost use mathlib.Core.Path.{_≡_};
 ghost use Rattle.headers.specs.Degree.{answer as degreeAnswer};
 ghost use Rattle.headers.specs.Rand.{answer as randAnswer};
 ghost use Rattle.headers.specs.Row.{checked};

@@ -28,13 +28,18 @@ pub doubled-lt : (a : ℕ) → a < 256 → doubled a < 256
 unfolding doubled
 doubled-lt a h = ltb→lt (doubled a) 256 (under 256 (λ x. ltb (doubled x) 256) tt a h)
 
+-- whichever of two numbers below m is picked
+pub pick-lt : (t : Bool) {a b m : ℕ} → a < m → b < m → pick t a b < m
+pick-lt true ha hb = ha
+pick-lt false ha hb = hb
+
 -- what holds of 0 and of 1 holds of a bit
 pub bit : (P : ℕ → Type 0) → P 0 → P 1 → (x : ℕ) → x < 2 → P x
 bit P p q zero h = p
 bit P p q (suc zero) h = q
 bit P p q (suc (suc x)) h = absurd (omega arith)
 
--- a number times a bit; the same, with the bit's sum
+-- a sum times a bit, and a number times a sum of bits
 by-bit : (a b x : ℕ) → x < 2 → plus a b * x ≡ plus (a * x) (b * x)
 by-bit a b =
     bit (λ (x : ℕ). plus a b * x ≡ plus (a * x) (b * x)) (simp mul-zero) (simp mul-one)
@@ -281,10 +286,6 @@ over-only a b q p hb hq e =
     ∙ sym (times-assoc q b (inverse b)) ∙ ap (λ (x : ℕ). times x (inverse b)) e
 
 -- ---- products and quotients by logarithms, as RFC 6330 section 5.7.2 has them
-
-pick-lt : (t : Bool) {a b m : ℕ} → a < m → b < m → pick t a b < m
-pick-lt true ha hb = ha
-pick-lt false ha hb = hb
 
 place-lt : (a i : ℕ) (xs : List ℕ) → i + length xs < 256 → place a i xs < 255
 unfolding place

@@ -1,17 +1,15 @@
 -- Sums over a range: term by term, by their last term, with factors, one inside the other; and the unit matrix.
 -- Assumes nothing.
 use mathlib.Core.Path.{_≡_, refl, sym, ap, ap₂, _∙_}
-use mathlib.Core.Bool.{Bool, true, false}
 use Prim.Native.Nat.{ℕ, zero, suc, _<_}
 use native.Mathlib.Omega.{arith}
 use borrow.Author.Tests.{eq-eqb, ne-eqb}
 use lib.Dec.{eqb}
 use lib.Bits.{xor-comm, xor-lt, xor-zero-l, xor-zero-r}
-use Rattle.field.specs.Choice.{pick}
 use Rattle.field.specs.Octet.{plus, times}
 use Rattle.field.specs.Sum.{sum, unit}
 use Rattle.field.proofs.Xor.{assoc, swap}
-use Rattle.field.proofs.Laws.{times-plus, times-comm, times-zero}
+use Rattle.field.proofs.Laws.{pick-lt, times-plus, times-comm, times-zero}
 
 -- equal terms, equal sums
 pub sum-same : (n : ℕ) {f g : ℕ → ℕ} → ((k : ℕ) → k < n → f k ≡ g k) → sum n f ≡ sum n g
@@ -75,8 +73,4 @@ unit-other i j n = rw (ne-eqb i j n)
 
 pub unit-lt : (i j : ℕ) → unit i j < 2
 unfolding unit
-unit-lt i j = go (eqb i j)
-  where
-    go : (t : Bool) → pick t 1 0 < 2
-    go true = omega arith
-    go false = omega arith
+unit-lt i j = pick-lt (eqb i j) (omega arith) (omega arith)

@@ -20,7 +20,7 @@ unfoldable pub power : ℕ → ℕ
 power zero = 1
 power (suc i) = doubled (power i)
 
--- n of them, from x on, as a list
+-- n powers, from the power x on, as a list
 unfoldable pub powers : ℕ → ℕ → List ℕ
 powers zero x = []
 powers (suc n) x = x ∷ powers n (doubled x)

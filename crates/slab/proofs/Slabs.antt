@@ -1,4 +1,5 @@
--- Symbols of a slab: what a call that is not refused knows of its places.
+-- Symbols of a slab: what a call that is not refused knows of its places, where a symbol is shown from, and that a call
+-- which writes one symbol changes no other.
 -- Assumes nothing.
 use mathlib.Core.Path.{_≡_, sym, ap, _∙_, refl}
 use mathlib.Core.Bool.{false}
@@ -35,7 +36,6 @@ pub reached-by : (n count i : ℕ) → strange n count ≡ false → i < count �
 reached-by n count i e h z = omega (arith, h, sound n count e z)
 
 pub record Placed (len count t : ℕ) (order : List ℕ) (i : ℕ) : Type 0 where
-  pub few : count ≤ 131070
   pub room : count * t ≤ len
   pub inside : i < count
   pub reached : Reached (length order) i
@@ -50,7 +50,6 @@ placed-well len count t order i e =
     let f = passed (leb count (physical order i)) 6 _ tt (d .1) in
     let inside = leb-false count i (d .0) in
     record {
-      few = ltb-false _ _ (a .0);
       room = ltb-false _ _ (b .0);
       inside = inside;
       reached = reached-by (length order) count i (c .0) inside;
@@ -80,7 +79,7 @@ pub apart : {len count t : ℕ} {order : List ℕ} {dest src : ℕ} → Paired l
 apart {len} {count} {t} {order} {dest} {src} p =
     record { to-in = ends (p .to); from-in = ends (p .from); apart = blocks-apart (physical order dest) (physical order src) t (p .differ) }
 
--- the range that is told lies in the store, and holds the symbol
+-- the range that is told lies in the store
 pub located-well : (len count t : ℕ) (order : List ℕ) (i begin end : ℕ) → located len count t order i ≡ given (begin, end) → (begin ≤ end) × (end ≤ len)
 located-well len count t order i begin end e =
     let a = passed-before (placed len count t order i) _ (begin, end) e in

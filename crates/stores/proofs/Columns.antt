@@ -1,18 +1,19 @@
 -- Columns of a row of bits: one that is put, and two that change places.
 -- Assumes nothing.
-use mathlib.Core.Path.{_≡_, refl, sym, ap, _∙_, subst}
+use mathlib.Core.Path.{_≡_, refl, sym, ap, _∙_}
+use mathlib.Core.Bool.{Bool, true, false}
 use mathlib.Core.List.{List}
 use Prim.Native.Nat.{ℕ, _+_, _*_, _/_, _%_, _≤_, _<_}
-use native.Mathlib.Nat.{add-zero, zero-add}
+use native.Mathlib.Nat.{add-zero, zero-add, div-add-mod'}
 use native.Mathlib.Decide.{ℕ-discrete, decLt}
 use native.Mathlib.Omega.{arith}
 use borrow.Author.Tests.{eq-eqb, ne-eqb, lt-ltb, le-ltb}
 use lib.Arith.{digits-div, digits-mod}
-use lib.Dec.{eqb}
+use lib.Dec.{eqb, ltb}
 use lib.ListN.{getD}
 use Rattle.field.specs.Choice.{pick}
 use Rattle.field.specs.Runs.{Written}
-use Rattle.field.proofs.Writing.{written-same, written-is}
+use Rattle.field.proofs.Writing.{written-same, written-is, written-from}
 use Rattle.field.proofs.Parts.{written-then}
 use Rattle.stores.specs.Bits.{bit, bitAt, withBit, moved, crossing, crossedFrom}
 use Rattle.stores.proofs.Bits.{with-self, with-same, with-other}
@@ -67,8 +68,8 @@ pub crossing-same : (xs ys : List ℕ) (at a b o : ℕ) → ((k : ℕ) → getD 
 unfolding crossing
 crossing-same xs ys at a b o e = simp e
 
--- a column with itself
-pub crossing-self : (xs : List ℕ) (at a o : ℕ) → crossing xs at a a o ≡ getD xs (at + o) 0
+-- a column with itself, in one row and in all
+crossing-self : (xs : List ℕ) (at a o : ℕ) → crossing xs at a a o ≡ getD xs (at + o) 0
 unfolding crossing
 crossing-self xs at a o = go (ℕ-discrete o (a / 64))
   where
@@ -80,6 +81,13 @@ crossing-self xs at a o = go (ℕ-discrete o (a / 64))
         once : withBit (getD xs (at + o) 0) (a % 64) (bitAt xs at a) ≡ getD xs (at + o) 0
         once = ap (λ (i : ℕ). withBit (getD xs (at + o) 0) (a % 64) (bit (getD xs (at + i) 0) (a % 64))) (sym e) ∙ with-self (getD xs (at + o) 0) (a % 64)
     go (no d) = rw (ne-eqb o (a / 64) d)
+
+pub crossed-same : (xs : List ℕ) (n a start k : ℕ) → getD xs k 0 ≡ crossedFrom xs n a a start k
+crossed-same xs n a start k = go (ltb (k / n) start)
+  where
+    go : (t : Bool) → getD xs k 0 ≡ pick t (getD xs k 0) (crossing xs (k / n * n) a a (k % n))
+    go true = refl
+    go false = sym (crossing-self xs (k / n * n) a (k % n) ∙ ap (λ (i : ℕ). getD xs i 0) (div-add-mod' k n))
 
 module _ (xs : List ℕ) (n a b start : ℕ) where
   -- the rows before `start` stay
@@ -97,5 +105,5 @@ module _ (xs : List ℕ) (n a b start : ℕ) where
       → Written (crossing ys (r * n) a b) ys zs (r * n) n → Written (crossedFrom xs n a b start) xs zs 0 ((r + 1) * n)
   crossed-more ys zs r h w u =
       written-is
-      (written-then w (subst (λ (i : ℕ). Written (crossing ys (r * n) a b) ys zs i n) (sym (zero-add (r * n))) u)
+      (written-then w (written-from u (sym (zero-add (r * n))))
       (λ k l. crossing-same xs ys (r * n) a b k (λ q. w .high (r * n + q) (omega arith)) ∙ crossed-at r k h l)) (omega arith)

@@ -12,7 +12,7 @@ use borrow.Author.Tests.{ne-eqb}
 use lib.ListN.{length, getD, length-append, List·getD-append}
 use lib.Seq.{getD-append-add}
 use Rattle.field.specs.Runs.{Written}
-use Rattle.field.proofs.Writing.{written-none, written-is, written-as}
+use Rattle.field.proofs.Writing.{written-none, written-is, written-from, written-as}
 use Rattle.field.proofs.Parts.{written-then}
 use Rattle.stores.specs.Counting.{tally, ones, Listed}
 
@@ -20,10 +20,6 @@ module _ (f : ℕ → ℕ) (start : ℕ) where
   pub tally-none : tally f start 0 ≡ 0
   unfolding tally
   tally-none = refl
-
-  pub tally-more : (n : ℕ) → tally f start (n + 1) ≡ tally f start n + f (start + n)
-  unfolding tally
-  tally-more n = rw add-one
 
   ones-zero : (n : ℕ) → f (start + n) ≡ 0 → ones f start (n + 1) ≡ ones f start n
   unfolding ones
@@ -48,7 +44,7 @@ module _ (f : ℕ → ℕ) (start : ℕ) where
     listed-more = go (ℕ-discrete (f (start + n)) 0)
       where
         behind : {v : ℕ} → f (start + n) ≡ v → Written (λ k. start + n) ys zs (0 + m) v
-        behind {v} q = subst (λ (i : ℕ). Written (λ k. start + n) ys zs i v) (sym (zero-add m)) (written-is u q)
+        behind q = written-from (written-is u q) (sym (zero-add m))
 
         go : Dec (f (start + n) ≡ 0) → Listed f start (n + 1) xs zs r
         go (yes q) =

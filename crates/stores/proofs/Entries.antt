@@ -16,12 +16,14 @@ use Rattle.field.specs.Choice.{pick}
 use Rattle.field.specs.Octet.{plus}
 use Rattle.field.specs.Runs.{Written, added, part}
 use Rattle.field.proofs.Parts.{part-at, block-ends, blocks-apart}
+use Rattle.field.proofs.Writing.{written-same, written-once}
 use Rattle.stores.specs.Bits.{bit, moved, crossing, crossedFrom}
 use Rattle.stores.specs.Rows.{packedTo, Exchanged}
 use Rattle.stores.specs.Matrix.{rowWords, wordsOf, rowAt, entry, shape}
 use Rattle.stores.specs.declared.matrix.DenseBinaryMatrix.{DenseBinaryMatrix}
 use Rattle.stores.proofs.Bits.{bit-lt, xor-bit}
-use Rattle.stores.proofs.Columns.{Put, put-column, moved-bit, crossed-at, crossed-before}
+use Rattle.stores.proofs.Rows.{exchanged-same, exchanged-once}
+use Rattle.stores.proofs.Columns.{Put, put-column, moved-bit, crossed-at, crossed-before, crossed-none, crossed-same}
 
 -- a word of another row lies before or after this one
 elsewhere : (r i n o : ℕ) → o < n → (r ≡ i → ⊥) → (r * n + o < i * n) ⊎ (i * n + n ≤ r * n + o)
@@ -84,6 +86,10 @@ module _ (m : DenseBinaryMatrix) (xs ys : List ℕ) where
         same-word r r c
         (e .rest _ (elsewhere r i (rowWords (m .width)) (c / 64) h d) (elsewhere r j (rowWords (m .width)) (c / 64) h n))
 
+  -- a row with itself: nothing changes
+  pub swapped-self : (i : ℕ) → Exchanged xs ys (rowAt m i) (rowAt m i) (rowWords (m .width)) → ys ≡ xs
+  swapped-self i e = exchanged-once e (exchanged-same xs (rowAt m i) (rowWords (m .width)))
+
   -- `swap_columns`: from the start row on columns a and b have changed places, and nothing else has moved
   module _ (a b start : ℕ) (w : Written (crossedFrom xs (rowWords (m .width)) a b start) xs ys 0 (wordsOf m)) where
     word : (r c : ℕ) → r < m .height → c / 64 < rowWords (m .width) → getD ys (rowAt m r + c / 64) 0 ≡ crossedFrom xs (rowWords (m .width)) a b start (rowAt m r + c / 64)
@@ -105,6 +111,15 @@ module _ (m : DenseBinaryMatrix) (xs ys : List ℕ) where
         (word r c h l
         ∙ sym (crossed-before xs (rowWords (m .width)) a b start (rowAt m r + c / 64)
         (let e : (rowAt m r + c / 64) / rowWords (m .width) ≡ r = digits-div r l in omega arith)))
+
+    -- a start row at or past the height: nothing changes
+    pub crossed-past : m .height ≤ start → ys ≡ xs
+    crossed-past h = written-once w (crossed-none xs (rowWords (m .width)) a b start (m .height) h)
+
+  -- a column with itself: nothing changes
+  pub crossed-self : (a start : ℕ) → Written (crossedFrom xs (rowWords (m .width)) a a start) xs ys 0 (wordsOf m) → ys ≡ xs
+  crossed-self a start w =
+      written-once w (written-same (crossedFrom xs (rowWords (m .width)) a a start) xs (wordsOf m) (λ k h. crossed-same xs (rowWords (m .width)) a start k))
 
   -- `resize`: the entries that are kept stand in the new matrix
   pub packed-entry : (height width : ℕ) → Written (packedTo xs (rowWords width) (rowWords (m .width))) xs ys 0 (wordsOf (shape height width))

@@ -12,7 +12,7 @@ use lib.ListN.{length, getD, set, length-set}
 use lib.Seq.{getD-set-same, getD-set-other, ext-getD}
 use Rattle.field.specs.Octet.{plus}
 use Rattle.field.specs.Runs.{Written, added, part, Apart}
-use Rattle.field.proofs.Writing.{written-next, written-same, written-is}
+use Rattle.field.proofs.Writing.{written-next, written-same, written-is, written-from}
 use Rattle.field.proofs.Parts.{part-at, written-then}
 use Rattle.stores.specs.Rows.{packedTo, Exchanged}
 
@@ -122,5 +122,5 @@ module _ (xs : List ℕ) (n old : ℕ) where
       → Written (λ k. getD ys (r * old + k) 0) ys zs (r * n) n → Written (packedTo xs n old) xs zs 0 ((r + 1) * n)
   packed-more ys zs r h w u =
       written-is
-      (written-then w (subst (λ (i : ℕ). Written (λ k. getD ys (r * old + k) 0) ys zs i n) (sym (zero-add (r * n))) u)
+      (written-then w (written-from u (sym (zero-add (r * n))))
       (λ k l. w .high (r * old + k) (omega (arith, mul-le-mul-left r h)) ∙ sym (simp (digits-div r l, digits-mod r l)))) (omega arith)

@@ -6,11 +6,10 @@ use native.Mathlib.Nat.{mul-le-mul-right}
 use native.Mathlib.Omega.{arith}
 use borrow.Author.Tests.{ltb-false, leb-false}
 use lib.Dec.{eqb, ltb, leb}
-use mathlib.Core.Bool.{Bool, true, false}
 use Rattle.field.proofs.Parts.{block-ends, blocks-apart}
 use Rattle.field.specs.Runs.{Apart}
-use Rattle.field.specs.Choice.{pick}
 use Rattle.field.specs.Answer.{given}
+use Rattle.field.proofs.Laws.{pick-lt}
 use Rattle.field.proofs.Refusals.{passed, passed-before}
 use Rattle.stores.specs.Matrix.{rowWords, wordsOf, rowAt, oneOf, limited, stored, placed, ranged, roomy, paired, spanned, listable, shrinkable}
 use Rattle.stores.specs.declared.matrix.DenseBinaryMatrix.{DenseBinaryMatrix}
@@ -70,11 +69,7 @@ ranged-well n start end e =
     (ltb-false _ _ (a .0), ltb-false _ _ (b .0))
 
 pub one-lt : (v : ℕ) → oneOf v < 2
-one-lt v = go (eqb v 0)
-  where
-    go : (t : Bool) → pick t 0 1 < 2
-    go true = omega arith
-    go false = omega arith
+one-lt v = pick-lt (eqb v 0) (omega arith) (omega arith)
 
 pub record Spanned (len : ℕ) (m : DenseBinaryMatrix) (i start end : ℕ) : Type 0 where
   pub store : Stored len m

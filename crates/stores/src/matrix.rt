@@ -35,6 +35,7 @@ fn row_word_width(width: usize) -> usize
     (width + 63) / 64
 }
 
+// The refusals of a height and a width.
 fn limits(height: usize, width: usize) -> Answer
     ensures { λ r. ⌜ done r ≡ limited height width ⌝ }
 {
@@ -47,6 +48,7 @@ fn limits(height: usize, width: usize) -> Answer
     Answer::Done
 }
 
+// The refusals of every call on a matrix in `len` words: its numbers, then its store.
 fn store(len: usize, m: DenseBinaryMatrix) -> Answer
     ensures { λ r. ⌜ done r ≡ stored len m ⌝ }
 {
@@ -303,7 +305,7 @@ pub fn add_assign_rows(ws: &mut [u64], m: DenseBinaryMatrix, dest: usize, src: u
     Answer::Done
 }
 
-// Columns i and j change places in the rows from `start` on; the rows before are taken to agree there.
+// Columns i and j change places in the rows from `start` on. The rows before stay: the crate's caller knows that the two agree there.
 pub fn swap_columns(
     ws: &mut [u64],
     m: DenseBinaryMatrix,

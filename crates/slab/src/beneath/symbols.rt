@@ -4,6 +4,7 @@ ghost use Prim.Native.Nat.{_+_, _≤_, _<_};
 ghost use lib.ListN.{length};
 ghost use Rattle.field.specs.Runs.{Apart, Written, added, fused, part, scaled};
 
+// A chunk lies in the frame of the call, so that its size is fixed; the last one is what is left.
 fn chunk_len(left: usize) -> usize
     ensures { λ r. ⌜ (r ≤ 1024) × (r ≤ left) × (0 < left → 0 < r) ⌝ }
 {

@@ -1,7 +1,7 @@
 // Which places hold a one, listed in lent memory from its front on.
 ghost use mathlib.Core.Path.{_≡_};
 ghost use Prim.Native.Nat.{_+_, _*_, _/_, _≤_, _<_};
-ghost use lib.ListN.{length, getD};
+ghost use lib.ListN.{length};
 ghost use Rattle.field.specs.Runs.{Written};
 ghost use Rattle.stores.specs.Bits.{bitAt};
 ghost use Rattle.stores.specs.Counting.{Listed};

@@ -101,7 +101,7 @@ fn count_bits(w: u64, b: usize, m: usize) -> usize
     u64::count_ones((w >> b) << (64 - m)) as usize
 }
 
-fn less(a: usize, b: usize) -> usize
+fn smaller(a: usize, b: usize) -> usize
     ensures { λ r. ⌜ r ≡ min a b ⌝ }
 {
     if a < b { a } else { b }
@@ -117,7 +117,7 @@ pub fn count(ws: &[u64], at: usize, start: usize, n: usize) -> usize
     while k < n {
         let c = start + k;
         let b = c % 64;
-        let m = less(64 - b, n - k);
+        let m = smaller(64 - b, n - k);
         ones += count_bits(ws[at + c / 64], b, m);
         k += m;
     }

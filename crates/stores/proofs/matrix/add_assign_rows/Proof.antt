@@ -1,12 +1,10 @@
 -- `stores::matrix::add_assign_rows` meets its contract.
 -- Assumes nothing.
 use mathlib.Core.Path.{refl, sym, _∙_}
-use Prim.Native.Nat.{_-_}
 use native.Mathlib.Omega.{arith}
 use lib.ListN.{length}
 use denote.Ref.{now}
-use Rattle.field.specs.Answer.{given}
-use Rattle.field.proofs.Refusals.{told, left, went-on, stopped}
+use Rattle.field.proofs.Refusals.{told, went-on, stopped}
 use borrow.Author.Tests.{eq-eqb, ne-eqb}
 use Rattle.stores.proofs.Shapes.{Paired, paired-well, row-in, apart}
 use borrow.Author.Needs.{needs}

@@ -1,7 +1,6 @@
 -- `stores::matrix::query_non_zero_columns` meets its contract.
 -- Assumes nothing.
 use mathlib.Core.Path.{refl, sym, ap, _∙_}
-use Prim.Native.Nat.{_-_}
 use native.Mathlib.Omega.{arith}
 use lib.ListN.{length}
 use denote.Ref.{now}

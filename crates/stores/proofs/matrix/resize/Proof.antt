@@ -1,11 +1,9 @@
 -- `stores::matrix::resize` meets its contract.
 -- Assumes nothing.
 use mathlib.Core.Path.{refl, sym}
-use Prim.Native.Nat.{_-_}
 use native.Mathlib.Omega.{arith}
 use lib.ListN.{length}
 use denote.Ref.{now}
-use Rattle.field.specs.Answer.{given}
 use Rattle.field.proofs.Refusals.{went-on, stopped, told}
 use Rattle.stores.specs.Matrix.{shape}
 use Rattle.stores.proofs.Shapes.{Shrinkable, shrinkable-well, shrunk-in}

@@ -3,8 +3,6 @@
 use borrow.Author.Tests.{le-leb, lt-leb}
 use Rattle.field.proofs.Refusals.{went-on, stopped}
 use mathlib.Core.Path.{sym, _∙_}
-use Prim.Native.Nat.{_-_}
-use Rattle.field.specs.Answer.{given}
 use borrow.Author.Needs.{needs}
 use Rattle.stores.proofs.matrix.span.Statement.{statement}
 use Rattle.stores.proofs.matrix.span.Tie as tie

@@ -1,11 +1,9 @@
 -- `stores::matrix::swap_columns` meets its contract.
 -- Assumes nothing.
 use mathlib.Core.Path.{sym}
-use Prim.Native.Nat.{_-_}
 use native.Mathlib.Omega.{arith}
 use lib.ListN.{length}
 use denote.Ref.{now}
-use Rattle.field.specs.Answer.{given}
 use Rattle.field.proofs.Refusals.{told, left}
 use Rattle.stores.proofs.Shapes.{Paired, paired-well, column-word}
 use borrow.Author.Needs.{needs}

@@ -6,7 +6,6 @@ use native.Mathlib.Nat.{zero-add}
 use native.Mathlib.Omega.{arith}
 use borrow.Author.Needs.{needs}
 use lib.ListN.{length, getD}
-use denote.Ref.{now}
 use Rattle.field.specs.Octet.{times}
 use Rattle.field.specs.Runs.{Written, scaled}
 use Rattle.field.proofs.Laws.{times-comm}

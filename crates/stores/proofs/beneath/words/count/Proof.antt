@@ -20,12 +20,12 @@ Inv-loop ws at start n ones₀ k₀ ones k = (ones ≡ tally (bitAt ws at) start
 abbrev μ-loop : tie.MeasureT-loop
 μ-loop ws at start n ones₀ k₀ ones k = n - k
 
-few : (c : tie.After-count-bits Inv-loop μ-loop) → c .count-bits .result ≤ c .before .before .less .result
+few : (c : tie.After-count-bits Inv-loop μ-loop) → c .count-bits .result ≤ c .before .before .smaller .result
 few c =
     let a = c .before .before .before .before .before .before .args in
     let at = a .start + c .before .before .before .before .loop .k in
     let w = getD (now (a .ws)) (a .at + at / 64) 0 in
-    omega (arith, c .count-bits .ensures, tally-le (bit w) (at % 64) (bit-lt w) (c .before .before .less .result))
+    omega (arith, c .count-bits .ensures, tally-le (bit w) (at % 64) (bit-lt w) (c .before .before .smaller .result))
 
 loop-holds : tie.Need-loop-holds Inv-loop μ-loop
 loop-holds c = (sym (tally-none _ _), omega arith, omega arith)
@@ -33,14 +33,14 @@ loop-holds c = (sym (tally-none _ _), omega arith, omega arith)
 add-c : tie.Need-add-c Inv-loop μ-loop
 add-c c = search needs
 
-sub-less : tie.Need-sub-less Inv-loop μ-loop
-sub-less c = search needs
+sub-smaller : tie.Need-sub-smaller Inv-loop μ-loop
+sub-smaller c = search needs
 
-sub-less-2 : tie.Need-sub-less-2 Inv-loop μ-loop
-sub-less-2 c = search needs
+sub-smaller-2 : tie.Need-sub-smaller-2 Inv-loop μ-loop
+sub-smaller-2 c = search needs
 
-less-requires : tie.Need-less-requires Inv-loop μ-loop
-less-requires c κs = search needs
+smaller-requires : tie.Need-smaller-requires Inv-loop μ-loop
+smaller-requires c κs = search needs
 
 add-count-bits : tie.Need-add-count-bits Inv-loop μ-loop
 add-count-bits c = search needs
@@ -52,24 +52,24 @@ shared-slice-read-count-bits : tie.Need-shared-slice-read-count-bits Inv-loop μ
 shared-slice-read-count-bits c = search needs
 
 count-bits-requires : tie.Need-count-bits-requires Inv-loop μ-loop
-count-bits-requires c κs = omega (arith, c .before .less .ensures)
+count-bits-requires c κs = omega (arith, c .before .smaller .ensures)
 
 add-ones : tie.Need-add-ones Inv-loop μ-loop
-add-ones c = omega (arith, few c, c .before .before .less .ensures)
+add-ones c = omega (arith, few c, c .before .before .smaller .ensures)
 
 add-k : tie.Need-add-k Inv-loop μ-loop
-add-k c = omega (arith, c .before .before .less .ensures)
+add-k c = omega (arith, c .before .before .smaller .ensures)
 
 loop-less : tie.Need-loop-less Inv-loop μ-loop
-loop-less c = omega (arith, c .before .before .less .ensures)
+loop-less c = omega (arith, c .before .before .smaller .ensures)
 
 loop-again : tie.Need-loop-again Inv-loop μ-loop
 loop-again c =
     let l = c .before .before .before .before .loop in
     let a = c .before .before .before .before .before .before .args in (
-      count-more (now (a .ws)) (a .at) (a .start) (l .k) (c .before .before .less .result) (l .ones) (c .count-bits .result) (l .inv .0) (c .count-bits .ensures) (omega (arith, c .before .before .less .ensures)),
+      count-more (now (a .ws)) (a .at) (a .start) (l .k) (c .before .before .smaller .result) (l .ones) (c .count-bits .result) (l .inv .0) (c .count-bits .ensures) (omega (arith, c .before .before .smaller .ensures)),
       omega (arith, few c),
-      omega (arith, c .before .before .less .ensures),
+      omega (arith, c .before .before .smaller .ensures),
     )
 
 returns : tie.Need-returns Inv-loop μ-loop
@@ -83,9 +83,9 @@ count-spec =
     μ-loop
     loop-holds
     add-c
-    sub-less
-    sub-less-2
-    less-requires
+    sub-smaller
+    sub-smaller-2
+    smaller-requires
     add-count-bits
     mul-count-bits
     shared-slice-read-count-bits
