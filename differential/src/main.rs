@@ -23,8 +23,15 @@ fn main() {
         eprintln!("usage: run AREA [COUNT] [SEED]");
         std::process::exit(2);
     };
-    let areas: [(&str, fn(u64, u64) -> Found); 7] =
-        [("field", field::run), ("headers", headers::run), ("matrix", matrix::run), ("slab", slab::run), ("constraints", constraints::run), ("encoding", encoding::run), ("solver", solver::run)];
+    let areas: [(&str, fn(u64, u64) -> Found); 7] = [
+        ("field", field::run),
+        ("headers", headers::run),
+        ("matrix", matrix::run),
+        ("slab", slab::run),
+        ("constraints", constraints::run),
+        ("encoding", encoding::run),
+        ("solver", solver::run),
+    ];
     let chosen: Vec<_> = areas.iter().filter(|(name, _)| area == name || area == "all").collect();
     if chosen.is_empty() {
         eprintln!("run: there is no area {area}");

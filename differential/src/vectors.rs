@@ -52,10 +52,8 @@ fn rows_and_tuples(v: &mut Vectors, random: &mut Random) {
         let wide = row.map(u64::from);
         let sizes = rows::published_sizes(row);
         v.ask('w', &wide, Some(sizes.iter().map(|n| *n as u32).collect()), 4);
-        // As the crate's decoder shifts an id that was sent.
         let (k, esi) = (1 + random.below(wide[0]) as u32, random.below(2 * wide[0]) as u32);
-        let isi = if esi < k { esi } else { esi + row[0] - k };
-        v.ask('i', &[&wide[..], &[k.into(), esi.into()]].concat(), Some(vec![isi]), 9);
+        v.ask('i', &[&wide[..], &[k.into(), esi.into()]].concat(), Some(vec![rows::shifted(row, k, esi)]), 9);
         for x in [random.below(wide[0]), random.below(1 << 24)] {
             let tuple = caught(|| base::intermediate_tuple(x as u32, row[4], row[1], sizes[3] as u32));
             // A panic here is the overflow of rand that docs/DIFFERENCES.md lists: no answer of the crate's to replay.
