@@ -33,7 +33,6 @@ pub fn run_add(dst: &mut [u8], src: &[u8]) -> Answer<()> {
     done(unsafe { spoonripple_run_add(dst.as_mut_ptr(), dst.len(), src.as_ptr(), src.len()) })
 }
 
-#[inline]
 pub fn run_scale(dst: &mut [u8], c: u8) -> Answer<()> {
     done(unsafe { spoonripple_run_scale(dst.as_mut_ptr(), dst.len(), c) })
 }
@@ -184,6 +183,7 @@ pub fn hdpc_rows([k, j, s, h, w]: Row, tables: &[u32], store: &mut [u8]) -> Answ
     done(unsafe { spoonripple_hdpc_rows(k, j, s, h, w, tables.as_ptr(), tables.len(), store.as_mut_ptr(), store.len()) })
 }
 
+#[inline]
 pub fn constraint_matrix([k, j, s, h, w]: Row, tables: &[u32], ids: &[u32], words: &mut [u64]) -> Answer<()> {
     done(unsafe { spoonripple_constraint_matrix(k, j, s, h, w, tables.as_ptr(), tables.len(), ids.as_ptr(), ids.len(), words.as_mut_ptr(), words.len()) })
 }
