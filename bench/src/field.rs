@@ -19,20 +19,16 @@ fn fma(dst: &mut [u8], src: &[u8], products: &[u8; 256]) {
 }
 
 pub fn run() {
-    let products: Vec<[u8; 256]> = (0..=255u8)
-        .map(|c| std::array::from_fn(|x| (Octet::new(c) * Octet::new(x as u8)).byte()))
-        .collect();
+    let products: Vec<[u8; 256]> = (0..=255u8).map(|c| std::array::from_fn(|x| (Octet::new(c) * Octet::new(x as u8)).byte())).collect();
     let mut random = Random::new(1);
     for n in [16, 256, 1024, 65535] {
         let (mut dst, src) = (random.bytes(n), random.bytes(n));
         let mut other = dst.clone();
         let scalars = random.bytes(64);
         let times = (20_000_000 / n).max(64);
-        let r = ratio(
-            times,
-            &mut || archive::run_add(black_box(&mut dst), black_box(&src)).unwrap(),
-            &mut || add(black_box(&mut other), black_box(&src)),
-        );
+        let mut ours = || archive::run_add(black_box(&mut dst), black_box(&src)).unwrap();
+        let mut theirs = || add(black_box(&mut other), black_box(&src));
+        let r = ratio(times, &mut ours, &mut theirs);
         line(&format!("add, {n} bytes"), "plain Rust", r, Some(1.2));
         let (mut i, mut j) = (0, 0);
         let r = ratio(

@@ -1,4 +1,4 @@
-//! One line a piece of work: our time over that of plain Rust, both taken in this process in turns, the best of several rounds.
+//! One line a piece of work: our time over that of plain Rust or of the published crate, taken in this process in turns.
 mod builders;
 mod field;
 mod plain;

@@ -1,6 +1,6 @@
 //! The solver's elimination in plain Rust: the rows in the order of ours, the same steps, over the same stores. It counts the operations on symbols.
 use differential::archive::{Arrived, Row, Stores};
-use differential::rows::{rand, sizes, tuple};
+use differential::rows::{rand, shifted, sizes, tuple};
 
 /// The two stores of a system in l symbols of t octets, and the operations on symbols so far: sums, sums with products, products.
 struct System<'a> {
@@ -129,7 +129,7 @@ fn fill_walk(out: &mut [u8], w: u32, p: u32, p1: u32, [d, a, mut b, d1, a1, mut 
 fn fill_sent(row: Row, tables: &[u32], came: Arrived, rows: &mut [u8], values: &mut [u8]) {
     let [l, p, _, p1] = sizes(row).expect("an accepted row");
     let (n, t, l) = (came.esis.len(), usize::from(came.t), l as usize);
-    let isis = came.esis.iter().map(|e| if *e < came.count { *e } else { *e + row[0] - came.count }).chain(came.count..row[0]);
+    let isis = came.esis.iter().map(|e| shifted(row, came.count, *e)).chain(came.count..row[0]);
     let mut all: Vec<(usize, [u32; 6])> = isis.map(|x| tuple(row, p1, tables, x)).enumerate().collect();
     all.sort_by_key(|(_, tuple)| tuple[0]);
     for (at, (i, tuple)) in all.into_iter().enumerate() {

@@ -28,9 +28,10 @@ impl Block {
         let packets = SourceBlockEncoder::new(0, &config(k), &data).repair_packets(0, k + 2);
         let esis: Vec<u32> = packets.iter().map(|p| p.payload_id().encoding_symbol_id()).collect();
         let symbols = packets.iter().flat_map(|p| p.data().to_vec()).collect();
-        let [l, m, t] = measures(row, k, esis.len());
-        let lent = Stores { rows: vec![0; m * l], values: vec![0; m * t], out: vec![0; l * t], shortfall: vec![0] };
-        Block { row, k, data, packets, esis, symbols, lent }
+        let mut block = Block { row, k, data, packets, esis, symbols, lent: Stores::default() };
+        let [l, m, t] = block.measures();
+        block.lent = Stores { rows: vec![0; m * l], values: vec![0; m * t], out: vec![0; l * t], shortfall: vec![0] };
+        block
     }
 
     fn came(&self) -> Arrived<'_> {
@@ -46,24 +47,19 @@ impl Block {
         })
     }
 
-    /// The source symbols, by our encoding of intermediate symbols.
     fn rebuilt(&self, tables: &[u32], set: &[u8]) -> Vec<u8> {
-        let mut block = vec![0; self.data.len()];
-        for (esi, symbol) in (0..).zip(block.chunks_mut(T.into())) {
-            archive::encode(self.row, tables, self.k, T, esi, set, symbol).expect("an encoding");
-        }
-        block
+        archive::rebuilt(self.row, tables, self.k, T, set).expect("nothing is refused")
+    }
+
+    /// L, M and T.
+    fn measures(&self) -> [usize; 3] {
+        let [l, m] = rows::measures(self.row, self.k, self.esis.len());
+        [l, m, T.into()]
     }
 }
 
 fn config(k: u32) -> ObjectTransmissionInformation {
     ObjectTransmissionInformation::new(u64::from(k) * u64::from(T), T, 1, 1, 8)
-}
-
-/// L, M and T.
-fn measures(row: Row, k: u32, n: usize) -> [usize; 3] {
-    let [most, _, s, h, _] = row.map(|x| x as usize);
-    [most + s + h, s + h + most - k as usize + n, T.into()]
 }
 
 /// All three give the same symbols, else no time means anything. Returns what the plain elimination did on symbols: sums, sums with products, products.
@@ -109,7 +105,7 @@ fn told(block: &Block, [sums, fused, scaled]: [u64; 3]) {
     };
     let bar = bar.map_or(String::new(), |b| format!(" (at most {b}){}", if all <= b { "" } else { ": MISSED" }));
     println!("{:<34} {all} operations on symbols{bar}: {sums} sums, {fused} with products, {scaled} products", "");
-    let [l, m, t] = measures(block.row, block.k, block.esis.len());
+    let [l, m, t] = block.measures();
     let kib = |bytes: usize| bytes.div_ceil(1024);
     let (rows, values, out, pivots) = (kib(m * l), kib(m * t), kib(l * t), kib(2 * 65_535));
     println!("{:<34} {} KiB of memory: rows {rows}, values {values}, out {out}, pivots {pivots}", "", rows + values + out + pivots);

@@ -1,7 +1,7 @@
 //! The two stores against the crate's own functions, which use the widest vectors that the machine has.
 use crate::{line, ratio};
-use differential::archive::{self, Shape, Slab};
 use differential::Random;
+use differential::archive::{self, Shape, Slab};
 use raptorq::matrix::{BinaryMatrix, DenseBinaryMatrix};
 use raptorq::octet::Octet;
 use raptorq::symbol_slab::SymbolSlab;

@@ -13,7 +13,7 @@ fn done(code: u32) -> Answer<()> {
 /// K', J, S, H, W.
 pub type Row = [u32; 5];
 
-/// `room` is how many places the store for values has; the calls below take any.
+/// A call on octets: its value goes to `out`, which may have any room.
 macro_rules! octet_call {
     ($name:ident, $inner:ident, $($arg:ident: $kind:ty),+) => {
         pub fn $name($($arg: $kind),+, out: &mut [u64]) -> Answer<()> {
@@ -33,7 +33,6 @@ pub fn run_add(dst: &mut [u8], src: &[u8]) -> Answer<()> {
     done(unsafe { spoonripple_run_add(dst.as_mut_ptr(), dst.len(), src.as_ptr(), src.len()) })
 }
 
-#[inline]
 pub fn run_scale(dst: &mut [u8], c: u8) -> Answer<()> {
     done(unsafe { spoonripple_run_scale(dst.as_mut_ptr(), dst.len(), c) })
 }
@@ -184,6 +183,7 @@ pub fn hdpc_rows([k, j, s, h, w]: Row, tables: &[u32], store: &mut [u8]) -> Answ
     done(unsafe { spoonripple_hdpc_rows(k, j, s, h, w, tables.as_ptr(), tables.len(), store.as_mut_ptr(), store.len()) })
 }
 
+#[inline]
 pub fn constraint_matrix([k, j, s, h, w]: Row, tables: &[u32], ids: &[u32], words: &mut [u64]) -> Answer<()> {
     done(unsafe { spoonripple_constraint_matrix(k, j, s, h, w, tables.as_ptr(), tables.len(), ids.as_ptr(), ids.len(), words.as_mut_ptr(), words.len()) })
 }
@@ -228,7 +228,16 @@ pub fn solve([k, j, s, h, w]: Row, tables: &[u32], came: Arrived, lent: &mut Sto
     }
 }
 
-/// Source symbol i, out of what arrived and the rebuilt store.
+/// The source symbols of a block, encoded from its intermediate symbols.
+pub fn rebuilt(row: Row, tables: &[u32], count: u32, t: u16, set: &[u8]) -> Answer<Vec<u8>> {
+    let mut block = vec![0; count as usize * usize::from(t)];
+    for (esi, symbol) in (0..).zip(block.chunks_mut(t.into())) {
+        encode(row, tables, count, t, esi, set, symbol)?;
+    }
+    Ok(block)
+}
+
+/// Where source symbol i is shown from: what arrived, or the rebuilt store.
 pub fn display(came: Arrived, rebuilt: &[u8], i: u32, out: &mut [u64]) -> Answer<()> {
     let Arrived { count, t, esis, symbols } = came;
     done(unsafe {

@@ -1,8 +1,8 @@
 //! Constraint rows: walks, HDPC octets and both builders, over the published rows and tables and over made-up ones.
-use differential::archive::{self, Row};
+use differential::archive::{self, Answer, Row};
 use differential::report::{Found, Report};
 use differential::rows::{self, sizes};
-use differential::{Random, caught};
+use differential::{Random, caught, places};
 use raptorq_lent::constraint_matrix::{self as theirs, enc_indices};
 use raptorq_lent::matrix::DenseBinaryMatrix;
 use raptorq_lent::rng::lent as tables_lent;
@@ -13,15 +13,9 @@ fn in_bounds([d, a, b, d1, a1, b1]: [u32; 6], w: u32, p1: u32) -> bool {
     (1..=30).contains(&d) && d <= w - 2 && (1..w).contains(&a) && b < w && (2..=3).contains(&d1) && (1..p1).contains(&a1) && b1 < p1
 }
 
-/// Our walk: the places at the front of a list with room for `room`, or the refusal; the rest of the list has to stay.
-fn walk(row: Row, tuple: [u32; 6], room: usize) -> Result<Vec<u32>, u32> {
-    let mut list = vec![0xABCD_EF01; room];
-    let answer = archive::enc_indices(row, tuple, &mut list);
-    let used = if answer.is_ok() { (tuple[0] + tuple[3]) as usize } else { 0 };
-    if list[used..].iter().any(|x| *x != 0xABCD_EF01) {
-        return Err(99);
-    }
-    answer.map(|()| list[..used].to_vec())
+/// Our walk into a list with this room.
+fn walk(row: Row, tuple: [u32; 6], room: usize) -> Answer<Vec<u32>> {
+    places(room, |list| archive::enc_indices(row, tuple, list).map(|()| (tuple[0] + tuple[3]) as usize))
 }
 
 fn walks(report: &mut Report, random: &mut Random, count: u64) {
@@ -67,7 +61,9 @@ fn hdpc(report: &mut Report, random: &mut Random, row: Row, tables: &[u32]) {
     let mut store = random.bytes(expected.len() + 3);
     let before = store.clone();
     let answer = archive::hdpc_rows(row, tables, &mut store);
-    report.case(answer == Ok(()) && store[..expected.len()] == expected && store[expected.len()..] == before[expected.len()..], || format!("HDPC rows of {row:?}"));
+    report.case(answer == Ok(()) && store[..expected.len()] == expected && store[expected.len()..] == before[expected.len()..], || {
+        format!("HDPC rows of {row:?}")
+    });
     let mut short = before[..expected.len() - 1].to_vec();
     report.case(archive::hdpc_rows(row, tables, &mut short) == Err(8) && short == before[..expected.len() - 1], || format!("HDPC rows of {row:?}, short"));
     report.case(archive::hdpc_rows(row, &tables[1..], &mut short) == Err(5), || "HDPC rows with 1023 numbers".into());
@@ -139,7 +135,7 @@ fn published(report: &mut Report, random: &mut Random) {
 fn made_up(report: &mut Report, random: &mut Random, count: u64) {
     for _ in 0..count {
         let row = rows::accepted(random);
-        let tables: Vec<u32> = (0..1024).map(|_| random.word() as u32).collect();
+        let tables = rows::any_tables(random);
         hdpc(report, random, row, &tables);
         let n = row[0] + random.below(u64::from(row[3]) + 5) as u32;
         let ids: Vec<u32> = (0..n).map(|_| random.word() as u32 >> random.below(32)).collect();

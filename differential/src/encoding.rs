@@ -17,7 +17,7 @@ fn walked(row: archive::Row, x: u32, t: usize, intermediates: &[u8]) -> Option<V
 }
 
 fn made_up(report: &mut Report, random: &mut Random) {
-    let tables: Vec<u32> = (0..1024).map(|_| random.word() as u32).collect();
+    let tables = rows::any_tables(random);
     rng::lent::lend(Some(tables.clone()));
     let row = rows::made_up(random);
     let t = random.below(40) as u16;
@@ -26,8 +26,8 @@ fn made_up(report: &mut Report, random: &mut Random) {
     let intermediates = random.bytes(have);
     for _ in 0..8 {
         let (count, esi) = (random.near(row[0].min(70000) as usize + 1) as u32, random.word() as u32 >> random.below(32));
-        let mut out = vec![0; usize::from(t) + random.below(4) as usize];
-        out.fill_with(|| random.byte());
+        let room = usize::from(t) + random.below(4) as usize;
+        let mut out = random.bytes(room);
         out.truncate(out.len().saturating_sub(usize::from(random.below(12) == 0)));
         let before = out.clone();
         let answer = archive::encode(row, &tables, count, t, esi, &intermediates, &mut out);
@@ -43,8 +43,7 @@ fn made_up(report: &mut Report, random: &mut Random) {
             report.case(answer == Err(n) && out == before, said);
             continue;
         }
-        let isi = if esi < count { esi } else { esi + row[0] - count };
-        if let Some(symbol) = walked(row, isi, t.into(), &intermediates) {
+        if let Some(symbol) = walked(row, rows::shifted(row, count, esi), t.into(), &intermediates) {
             let n = usize::from(t);
             report.case(answer == Ok(()) && out[..n] == symbol && out[n..] == before[n..], said);
         }

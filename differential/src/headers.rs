@@ -38,10 +38,9 @@ fn ids(report: &mut Report, random: &mut Random, count: u64) {
         match caught(|| PayloadId::new(sbn, esi)) {
             None => report.listed("D6 (ESI of 2^24)", answer == Err(9) && store == before, || format!("write id {sbn} {esi}")),
             Some(_) if room < 4 => report.case(answer == Err(8) && store == before, || format!("write id into {room}")),
-            Some(id) => report.case(
-                answer == Ok(()) && store[..4] == id.serialize() && store[4..] == before[4..],
-                || format!("write id {sbn} {esi} into {before:?}"),
-            ),
+            Some(id) => {
+                report.case(answer == Ok(()) && store[..4] == id.serialize() && store[4..] == before[4..], || format!("write id {sbn} {esi} into {before:?}"))
+            }
         }
     }
 }
@@ -116,8 +115,8 @@ fn packets(report: &mut Report, random: &mut Random, count: u64) {
             None => report.listed("D5 (length of a header)", length < 4 && ours == Err(8), || format!("read packet {bytes:?}")),
         }
         let (sbn, esi) = (random.byte(), edgy(random, 25) as u32);
-        let mut store = vec![0; random.below(48) as usize];
-        store.fill_with(|| random.byte());
+        let room = random.below(48) as usize;
+        let mut store = random.bytes(room);
         let before = store.clone();
         let answer = archive::packet_write(sbn, esi, &bytes, &mut store);
         let said = || format!("write packet {sbn} {esi} {bytes:?} into {before:?}");
@@ -164,8 +163,10 @@ fn numbers(report: &mut Report, random: &mut Random, count: u64, tables: &[u32])
 
 /// The thresholds of the degree table, one below and one above each, for every small W.
 fn thresholds(report: &mut Report) {
-    let table = [0, 5243, 529531, 704294, 791675, 844104, 879057, 904023, 922747, 937311, 948962, 958494, 966438, 973160, 978921, 983914,
-        988283, 992138, 995565, 998631, 1001391, 1003887, 1006157, 1008229, 1010129, 1011876, 1013490, 1014983, 1016370, 1017662, 1048576u32];
+    let table = [
+        0, 5243, 529531, 704294, 791675, 844104, 879057, 904023, 922747, 937311, 948962, 958494, 966438, 973160, 978921, 983914, 988283, 992138, 995565,
+        998631, 1001391, 1003887, 1006157, 1008229, 1010129, 1011876, 1013490, 1014983, 1016370, 1017662, 1048576u32,
+    ];
     for t in table {
         for v in [t.saturating_sub(1), t, t + 1] {
             for w in (2..40).chain([100, 65535]) {
@@ -191,8 +192,7 @@ fn parameter_rows(report: &mut Report, random: &mut Random, count: u64) {
         let theirs = match sizes(row) {
             None => Err(4),
             Some(_) if esi >= 1 << 24 || k < 1 || k > row[0] => Err(9),
-            // As the crate's decoder shifts: from K on the padding symbols come in between.
-            Some(_) => Ok(vec![u64::from(if esi < k { esi } else { esi + row[0] - k })]),
+            Some(_) => Ok(vec![rows::shifted(row, k, esi).into()]),
         };
         report.case(ours == theirs, || format!("isi of {esi} with K {k} of {row:?}"));
     }
@@ -202,7 +202,9 @@ fn tuple(report: &mut Report, row: Row, p1: u32, tables: &[u32], x: u32) {
     let ours = values(6, |out| archive::tuple(row, tables, x, out));
     match caught(|| base::intermediate_tuple(x, row[4], row[1], p1)) {
         Some((d, a, b, d1, a1, b1)) => report.case(ours == Ok([d, a, b, d1, a1, b1].map(u64::from).to_vec()), || format!("tuple of {x} in {row:?}")),
-        None => report.listed("D11 (rand overflows)", ours == Ok(rows::tuple(row, p1, tables, x).map(u64::from).to_vec()), || format!("tuple of {x} in {row:?}")),
+        None => {
+            report.listed("D11 (rand overflows)", ours == Ok(rows::tuple(row, p1, tables, x).map(u64::from).to_vec()), || format!("tuple of {x} in {row:?}"))
+        }
     }
 }
 
@@ -215,7 +217,7 @@ fn tuples(report: &mut Report, random: &mut Random, count: u64, published: &[u32
         }
     }
     for round in 0..count / 50 {
-        let tables: Vec<u32> = (0..1024).map(|_| random.word() as u32).collect();
+        let tables = rows::any_tables(random);
         rng::lent::lend(Some(tables.clone()));
         let row = rows::accepted(random);
         let p1 = sizes(row).unwrap()[3];
@@ -238,7 +240,7 @@ pub fn run(count: u64, seed: u64) -> Found {
     transmission(&mut report, &mut random, count / 4);
     packets(&mut report, &mut random, count / 8);
     numbers(&mut report, &mut random, count / 8, &published);
-    let tables: Vec<u32> = (0..1024).map(|_| random.word() as u32).collect();
+    let tables = rows::any_tables(&mut random);
     rng::lent::lend(Some(tables.clone()));
     numbers(&mut report, &mut random, count / 16, &tables);
     rng::lent::lend(None);

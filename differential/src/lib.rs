@@ -1,7 +1,11 @@
 //! The two sides: our archive (`archive`) and the published crate (`raptorq`), and what a comparison of them needs.
+use archive::Answer;
 use std::cell::Cell;
+use std::fmt::Debug;
 use std::sync::Once;
 
+// The arguments of a call stand together.
+#[rustfmt::skip]
 pub mod archive;
 pub mod report;
 pub mod rows;
@@ -40,22 +44,35 @@ impl Random {
 /// What stands in a store where a call should leave it alone.
 const UNTOUCHED: u64 = 0xA5A5_A5A5_A5A5_A5A5;
 
-/// The n values that a call answers, given room for them and one place more. A call that writes past them, or that refuses and has written,
-/// is a fault of ours: it ends the run.
-pub fn values(n: usize, call: impl FnOnce(&mut [u64]) -> archive::Answer<()>) -> archive::Answer<Vec<u64>> {
-    let mut store = vec![UNTOUCHED; n + 2];
-    let answer = call(&mut store[..n + 1]);
-    let written = if answer.is_ok() { n } else { 0 };
-    if store[written..].iter().any(|x| *x != UNTOUCHED) {
-        println!("a call wrote where it should not: {store:?}");
+/// A call that writes past its answer, or that refuses and has written, is a fault of ours: it ends the run.
+fn stays<T: PartialEq + Debug>(rest: &[T], mark: T) {
+    if rest.iter().any(|x| *x != mark) {
+        println!("a call wrote where it should not: {rest:?}");
         std::process::exit(1);
     }
+}
+
+/// The n values that a call answers, given room for them and one place more.
+pub fn values(n: usize, call: impl FnOnce(&mut [u64]) -> Answer<()>) -> Answer<Vec<u64>> {
+    let mut store = vec![UNTOUCHED; n + 2];
+    let answer = call(&mut store[..n + 1]);
+    stays(&store[if answer.is_ok() { n } else { 0 }..], UNTOUCHED);
     store.truncate(n);
     answer.map(|()| store)
 }
 
-/// That a call which needs room for n values refuses by this number with room, and, where 8 comes later than the number, without.
-pub fn refused_untouched(number: u32, n: usize, call: impl Fn(&mut [u64]) -> archive::Answer<()>) -> bool {
+/// The places that a call puts at the front of a list with this room, of which it answers how many.
+pub fn places(room: usize, call: impl FnOnce(&mut [u32]) -> Answer<usize>) -> Answer<Vec<u32>> {
+    let mark = UNTOUCHED as u32;
+    let mut list = vec![mark; room];
+    let answer = call(&mut list);
+    stays(&list[answer.unwrap_or(0)..], mark);
+    list.truncate(answer.unwrap_or(0));
+    answer.map(|_| list)
+}
+
+/// That a call which needs room for n values refuses by this number, which comes before 8 in the order: with room, and without.
+pub fn refused_untouched(number: u32, n: usize, call: impl Fn(&mut [u64]) -> Answer<()>) -> bool {
     values(n, &call) == Err(number) && call(&mut []) == Err(number)
 }
 
@@ -66,7 +83,11 @@ pub fn caught<T>(call: impl FnOnce() -> T) -> Option<T> {
     static QUIET: Once = Once::new();
     QUIET.call_once(|| {
         let loud = std::panic::take_hook();
-        std::panic::set_hook(Box::new(move |said| if !CAUGHT.get() { loud(said) }));
+        std::panic::set_hook(Box::new(move |said| {
+            if !CAUGHT.get() {
+                loud(said)
+            }
+        }));
     });
     CAUGHT.set(true);
     let given = std::panic::catch_unwind(std::panic::AssertUnwindSafe(call)).ok();

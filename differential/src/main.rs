@@ -12,19 +12,23 @@ use differential::report::Found;
 
 fn main() {
     let words: Vec<String> = std::env::args().skip(1).collect();
-    if let [command, folder] = words.as_slice() {
-        if command == "vectors" {
-            vectors::write(folder).expect("the files are written");
-            return;
-        }
+    if words.len() == 2 && words[0] == "vectors" {
+        return vectors::write(&words[1]).expect("the files are written");
     }
     let number = |at: usize, default: u64| words.get(at).map_or(Ok(default), |w| w.parse());
     let (Some(area), Ok(count), Ok(seed)) = (words.first(), number(1, 1_000_000), number(2, 1)) else {
         eprintln!("usage: run AREA [COUNT] [SEED]");
         std::process::exit(2);
     };
-    let areas: [(&str, fn(u64, u64) -> Found); 7] =
-        [("field", field::run), ("headers", headers::run), ("matrix", matrix::run), ("slab", slab::run), ("constraints", constraints::run), ("encoding", encoding::run), ("solver", solver::run)];
+    let areas: [(&str, fn(u64, u64) -> Found); 7] = [
+        ("field", field::run),
+        ("headers", headers::run),
+        ("matrix", matrix::run),
+        ("slab", slab::run),
+        ("constraints", constraints::run),
+        ("encoding", encoding::run),
+        ("solver", solver::run),
+    ];
     let chosen: Vec<_> = areas.iter().filter(|(name, _)| area == name || area == "all").collect();
     if chosen.is_empty() {
         eprintln!("run: there is no area {area}");

@@ -1,14 +1,13 @@
 //! The binary matrix: random sequences of operations on both sides, the whole memory compared after each, stray bits too.
 use differential::archive::{self, Answer, Shape};
 use differential::report::{Found, Report, area};
-use differential::{Random, caught, values};
+use differential::{Random, caught, places, values};
 use raptorq::matrix::{BinaryMatrix, DenseBinaryMatrix};
 use raptorq::octet::Octet;
 
 const WIDTHS: [u64; 12] = [0, 1, 2, 10, 62, 63, 64, 65, 127, 128, 129, 200];
 const HEIGHTS: [u64; 8] = [0, 1, 2, 3, 5, 9, 64, 65];
-const KINDS: [&str; 9] =
-    ["set", "get", "count_ones", "get_ones_in_column", "query_non_zero_columns", "swap_rows", "swap_columns", "add_assign_rows", "resize"];
+const KINDS: [&str; 9] = ["set", "get", "count_ones", "get_ones_in_column", "query_non_zero_columns", "swap_rows", "swap_columns", "add_assign_rows", "resize"];
 
 fn row_words(width: usize) -> usize {
     width.div_ceil(64)
@@ -58,15 +57,10 @@ fn refusal(len: usize, m: Shape, s: &Step) -> Option<u32> {
     }
 }
 
-/// A list call, with the list's memory checked: the places at its front, the rest as it was.
-fn listed(random_fill: u32, room: usize, call: impl FnOnce(&mut [u32], &mut [u64]) -> Answer<()>) -> Answer<Vec<u64>> {
-    let mut list = vec![random_fill; room];
-    let found = values(1, |out| call(&mut list, out));
-    let n = found.as_ref().map_or(0, |v| v[0] as usize);
-    if list[n..].iter().any(|x| *x != random_fill) {
-        return Err(99);
-    }
-    found.map(|_| list[..n].iter().map(|x| u64::from(*x)).collect())
+/// A call that lists: the places that it wrote.
+fn listed(room: usize, call: impl FnOnce(&mut [u32], &mut [u64]) -> Answer<()>) -> Answer<Vec<u64>> {
+    let list = places(room, |list| values(1, |out| call(list, out)).map(|v| v[0] as usize))?;
+    Ok(list.into_iter().map(u64::from).collect())
 }
 
 fn ours(words: &mut [u64], m: Shape, s: &Step) -> Answer<Vec<u64>> {
@@ -75,8 +69,8 @@ fn ours(words: &mut [u64], m: Shape, s: &Step) -> Answer<Vec<u64>> {
         "set" => archive::matrix_set(words, m, s.a, s.b, s.value).map(none),
         "get" => values(1, |out| archive::matrix_get(words, m, s.a, s.b, out)),
         "count_ones" => values(1, |out| archive::matrix_count_ones(words, m, s.a, s.b, s.c, out)),
-        "get_ones_in_column" => listed(0xABCD_EF01, s.room, |list, out| archive::matrix_get_ones_in_column(words, m, s.a, s.b, s.c, list, out)),
-        "query_non_zero_columns" => listed(0xABCD_EF01, s.room, |list, out| archive::matrix_query_non_zero_columns(words, m, s.a, s.b, list, out)),
+        "get_ones_in_column" => listed(s.room, |list, out| archive::matrix_get_ones_in_column(words, m, s.a, s.b, s.c, list, out)),
+        "query_non_zero_columns" => listed(s.room, |list, out| archive::matrix_query_non_zero_columns(words, m, s.a, s.b, list, out)),
         "swap_rows" => archive::matrix_swap_rows(words, m, s.a, s.b).map(none),
         "swap_columns" => archive::matrix_swap_columns(words, m, s.a, s.b, s.c).map(none),
         "add_assign_rows" => archive::matrix_add_assign_rows(words, m, s.a, s.b).map(none),
@@ -133,6 +127,7 @@ fn sequence(report: &mut Report, random: &mut Random) {
     let more = random.below(3) as usize;
     let mut words: Vec<u64> = (0..used + more).map(|_| random.word()).collect();
     let mut crates = DenseBinaryMatrix::new(m.height, m.width, 0);
+    // Just the words of the rows: `new` makes more (D16).
     crates.elements = words[..used].to_vec();
     for _ in 0..=random.below(4) {
         let s = step(random, m);

@@ -3,7 +3,7 @@ use crate::Random;
 use crate::archive::Row;
 use raptorq::systematic_constants as constants;
 
-pub fn is_prime(n: u32) -> bool {
+fn is_prime(n: u32) -> bool {
     n >= 2 && (2..).take_while(|d| d * d <= n).all(|d| n % d != 0)
 }
 
@@ -56,16 +56,36 @@ pub fn made_up(random: &mut Random) -> Row {
 
 /// A small row that is accepted.
 pub fn accepted(random: &mut Random) -> Row {
+    accepted_of(random, [300, 20, 20])
+}
+
+/// An accepted row, of so many values of K', S and H.
+pub fn accepted_of(random: &mut Random, many: [u64; 3]) -> Row {
     loop {
-        let s = 3 + 2 * random.below(20) as u32;
-        let k = 1 + random.below(300) as u32;
-        let h = 2 + random.below(20) as u32;
+        let [k, s, h] = many.map(|n| random.below(n) as u32);
+        let (k, s, h) = (1 + k, 3 + 2 * s, 2 + h);
         let w = s + 1 + random.below(u64::from(k + h)) as u32;
         let row = [k, random.below(65536) as u32, s, h, w];
         if sizes(row).is_some() {
             return row;
         }
     }
+}
+
+/// Random tables of any numbers.
+pub fn any_tables(random: &mut Random) -> Vec<u32> {
+    (0..1024).map(|_| random.word() as u32).collect()
+}
+
+/// The ISI of an ESI in a block of `count` source symbols, as the crate's decoder shifts it: from there on the padding symbols come in between.
+pub fn shifted(row: Row, count: u32, esi: u32) -> u32 {
+    if esi < count { esi } else { esi + row[0] - count }
+}
+
+/// L and M of a block of `count` source symbols of which n symbols came.
+pub fn measures(row: Row, count: u32, n: usize) -> [usize; 2] {
+    let l = (row[0] + row[2] + row[3]) as usize;
+    [l, l - count as usize + n]
 }
 
 /// RFC 6330, 5.3.5.1, with the sums modulo 256 that the crate's overflow checks do not let it take.

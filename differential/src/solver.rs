@@ -1,7 +1,7 @@
 //! Solving and display: blocks that the crate encoded, made-up systems against the harness's own elimination, and damaged calls.
 use differential::archive::{self, Arrived, Row, Stores};
 use differential::report::{Found, Report};
-use differential::rows::{self, is_prime, sizes};
+use differential::rows::{self, any_tables, measures, sizes};
 use differential::system::{self, Verdict};
 use differential::{Random, values};
 use raptorq::{EncodingPacket, ObjectTransmissionInformation, SourceBlockDecoder, SourceBlockEncoder};
@@ -9,8 +9,7 @@ use raptorq_lent::rng::lent::published;
 
 /// Stores with room for the call and up to four places more, of any content.
 fn stores(random: &mut Random, row: Row, count: u32, t: u16, n: usize) -> Stores {
-    let [k, _, s, h, _] = row.map(|x| x as usize);
-    let (l, m, t) = (k + s + h, s + h + k - count as usize + n, usize::from(t));
+    let ([l, m], t) = (measures(row, count, n), usize::from(t));
     let mut more = |n: usize| n + random.below(5) as usize;
     let (rows, values, out, shortfall) = (more(m * l), more(m * t), more(l * t), more(1));
     Stores { rows: random.bytes(rows), values: random.bytes(values), out: random.bytes(out), shortfall: (0..shortfall).map(|_| random.word()).collect() }
@@ -93,7 +92,7 @@ fn real(report: &mut Report, random: &mut Random, k: u32, extra: i64) {
         Verdict::Solved(set) => {
             let slab = &encoder.intermediate_symbols;
             let theirs: Vec<u8> = (0..slab.len()).flat_map(|i| slab.get(i).to_vec()).collect();
-            *set == theirs && decoded.as_ref() == Some(&data) && rebuilt(row, &tables, k, t, &lent.out) == Some(data)
+            *set == theirs && decoded.as_ref() == Some(&data) && archive::rebuilt(row, &tables, k, t, &lent.out) == Ok(data)
         }
         Verdict::Contradiction => false,
         Verdict::Open(_) => decoded.is_none(),
@@ -101,31 +100,9 @@ fn real(report: &mut Report, random: &mut Random, k: u32, extra: i64) {
     report.of(kind(&verdict), same && agrees, || format!("a block of {k}, T {t}, ESIs {esis:?}, symbols {symbols:?}"));
 }
 
-/// The source symbols, from our intermediate symbols by our encoding.
-fn rebuilt(row: Row, tables: &[u32], k: u32, t: u16, set: &[u8]) -> Option<Vec<u8>> {
-    let mut block = vec![];
-    for esi in 0..k {
-        let mut symbol = vec![0; t.into()];
-        archive::encode(row, tables, k, t, esi, set, &mut symbol).ok()?;
-        block.extend(symbol);
-    }
-    Some(block)
-}
-
-/// A row with L below 80 that is accepted.
+/// An accepted row with L of at most 71, so that many systems are solved in a short time.
 fn small_row(random: &mut Random) -> Row {
-    loop {
-        let [k, s, h] = [1 + random.below(45) as u32, 3 + 2 * random.below(6) as u32, 2 + random.below(12) as u32];
-        let w = s + 1 + random.below(u64::from(k + h)) as u32;
-        let row = [k, random.below(65536) as u32, s, h, w];
-        if is_prime(w) && k + s + h < 80 && sizes(row).is_some() {
-            return row;
-        }
-    }
-}
-
-fn any_tables(random: &mut Random) -> Vec<u32> {
-    (0..1024).map(|_| random.word() as u32).collect()
+    rows::accepted_of(random, [45, 6, 12])
 }
 
 /// ESIs of one call: of any size, source and repair, some twice; of a number around what is needed, or much less, or none.
@@ -193,16 +170,17 @@ struct Call {
 
 /// Document 01's refusals in their order: 4, 5, 9, 10, 8.
 fn refusal(c: &Call) -> Option<u32> {
-    let Some([l, _, _, _]) = sizes(c.row) else { return Some(4) };
-    let (n, t, l) = (c.esis.len(), usize::from(c.t), l as usize);
-    if c.tables.len() != 1024 {
+    let (n, t) = (c.esis.len(), usize::from(c.t));
+    if sizes(c.row).is_none() {
+        Some(4)
+    } else if c.tables.len() != 1024 {
         Some(5)
     } else if !(1..=c.row[0]).contains(&c.count) || n > 65535 || c.esis.iter().any(|e| *e >= 1 << 24) {
         Some(9)
     } else if t == 0 || c.symbols.len() != n * t {
         Some(10)
     } else {
-        let m = l - c.count as usize + n;
+        let [l, m] = measures(c.row, c.count, n);
         let short = c.lent.rows.len() < m * l || c.lent.values.len() < m * t || c.lent.out.len() < l * t || c.lent.shortfall.is_empty();
         short.then_some(8)
     }
@@ -240,8 +218,7 @@ fn refused(report: &mut Report, random: &mut Random) {
     let mut lent = stores(random, row, count, t, esis.len());
     if random.below(2) == 0 {
         // Not one place more than the call needs.
-        let [k, _, s, h, _] = row.map(|x| x as usize);
-        let (l, m, t) = (k + s + h, s + h + k - count as usize + esis.len(), usize::from(t));
+        let ([l, m], t) = (measures(row, count, esis.len()), usize::from(t));
         lent.rows.truncate(m * l);
         lent.values.truncate(m * t);
         lent.out.truncate(l * t);

@@ -1,7 +1,7 @@
 //! The linear system of a call in the harness's own words: octets, the rows of RFC 6330 as sums, and Gauss's elimination column by column.
 use crate::Random;
 use crate::archive::Row;
-use crate::rows::{rand, sizes, tuple};
+use crate::rows::{rand, shifted, sizes, tuple};
 use std::sync::LazyLock;
 
 /// RFC 6330, 5.7.2: products of polynomials modulo x^8 + x^4 + x^3 + x^2 + 1.
@@ -88,7 +88,7 @@ fn enc(row: Row, tables: &[u32], isi: u32) -> Vec<u8> {
 
 /// The row of an ESI of a block of `count` source symbols.
 pub fn sent(row: Row, tables: &[u32], count: u32, esi: u32) -> Vec<u8> {
-    enc(row, tables, if esi < count { esi } else { esi + row[0] - count })
+    enc(row, tables, shifted(row, count, esi))
 }
 
 /// The rows whose symbols are 0: LDPC, HDPC, padding.

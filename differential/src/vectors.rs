@@ -13,14 +13,15 @@ struct Vectors {
 impl Vectors {
     /// A question, answered by the numbers that the crate gives, or by the refusal that stands for its panic.
     fn ask(&mut self, kind: char, numbers: &[u64], given: Option<Vec<u32>>, refusal: u32) {
+        let answer = given.map_or(format!("refused {refusal} "), |values| values.iter().map(|v| format!("{v} ")).collect());
+        self.put(kind, numbers, &answer);
+    }
+
+    fn put(&mut self, kind: char, numbers: &[u64], answer: &str) {
         let mut all = numbers.to_vec();
         all.resize(7, 0);
         self.questions += &format!("{kind} {}\n", all.iter().map(u64::to_string).collect::<Vec<_>>().join(" "));
-        self.answers += &match given {
-            Some(values) => values.iter().map(|v| format!("{v} ")).collect::<String>(),
-            None => format!("refused {refusal} "),
-        };
-        self.answers.push('\n');
+        self.answers += &format!("{answer}\n");
     }
 }
 
@@ -38,11 +39,7 @@ fn numbers(v: &mut Vectors, random: &mut Random) {
         let f = (u64::from(t) * u64::from(z) * 56403).saturating_sub(random.below(2_000_000)) + 1_000_000;
         if t != 0 && z != 0 && f.div_ceil(t.into()) <= u32::MAX.into() {
             let taken = caught(|| ObjectTransmissionInformation::new(f, t, z, 1, al)).is_some();
-            v.ask('c', &[f, t.into(), z.into(), 1, al.into()], None, 3);
-            if taken {
-                v.answers.truncate(v.answers.len() - "refused 3 \n".len());
-                v.answers += "accepted \n";
-            }
+            v.put('c', &[f, t.into(), z.into(), 1, al.into()], if taken { "accepted " } else { "refused 3 " });
         }
     }
 }
@@ -52,10 +49,8 @@ fn rows_and_tuples(v: &mut Vectors, random: &mut Random) {
         let wide = row.map(u64::from);
         let sizes = rows::published_sizes(row);
         v.ask('w', &wide, Some(sizes.iter().map(|n| *n as u32).collect()), 4);
-        // As the crate's decoder shifts an id that was sent.
         let (k, esi) = (1 + random.below(wide[0]) as u32, random.below(2 * wide[0]) as u32);
-        let isi = if esi < k { esi } else { esi + row[0] - k };
-        v.ask('i', &[&wide[..], &[k.into(), esi.into()]].concat(), Some(vec![isi]), 9);
+        v.ask('i', &[&wide[..], &[k.into(), esi.into()]].concat(), Some(vec![rows::shifted(row, k, esi)]), 9);
         for x in [random.below(wide[0]), random.below(1 << 24)] {
             let tuple = caught(|| base::intermediate_tuple(x as u32, row[4], row[1], sizes[3] as u32));
             // A panic here is the overflow of rand that docs/DIFFERENCES.md lists: no answer of the crate's to replay.

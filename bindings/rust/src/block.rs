@@ -6,7 +6,8 @@ use crate::tuples::isi;
 
 /// One source block of K symbols of T octets, with all the memory that decoding it takes.
 ///
-/// The solver asks about (L + n) · (L + T) octets of scratch, where L is a little above K; they are taken at the first [`solve`](Block::solve) and kept.
+/// The solver asks (L - K + n) · (L + T) octets of scratch for n arrivals, where L is a little above K; they are taken at the first [`solve`](Block::solve)
+/// and kept.
 #[derive(Clone, Debug)]
 pub struct Block<'a> {
     row: Row,
@@ -55,8 +56,8 @@ impl<'a> Block<'a> {
         Arrivals { count: self.count, t: self.t, esis: &self.esis, symbols: &self.symbols }
     }
 
-    /// Decides over all that arrived. Each call starts anew and costs about L² · n steps, so that it is not worth a call before K packets came, nor after
-    /// [`Verdict::Open`] before as many more as its shortfall did.
+    /// Decides over all that arrived. Each call starts anew and costs up to about L · n · (L + T) steps, so that it is not worth a call before K packets came,
+    /// nor after [`Verdict::Open`] before as many more as its shortfall did.
     pub fn solve(&mut self) -> Verdict {
         let room = Room::of(self.row, self.arrivals());
         let stores = [(&mut self.rows, room.rows), (&mut self.values, room.values), (&mut self.intermediates, room.out)];

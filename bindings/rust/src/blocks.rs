@@ -1,6 +1,6 @@
 //! The calls over a block with lent stores: solving, the encoding of one symbol, and where a source symbol is displayed from.
 //!
-//! [`Block`](crate::Block) makes these calls and owns the stores; they stand here for who has memory of his own.
+//! [`Block`](crate::Block) makes these calls and owns the stores; they stand here for callers with memory of their own.
 use crate::parameters::{Row, Tables};
 use crate::refusal::{Refusal, done, values};
 use crate::sys;
@@ -71,6 +71,7 @@ pub fn solve(row: Row, tables: Tables, arrivals: Arrivals, stores: Stores) -> Re
     let Arrivals { count, t, esis, symbols } = arrivals;
     let Stores { rows, values, out } = stores;
     let mut shortfall = [0];
+    #[rustfmt::skip]
     let code = unsafe {
         sys::spoonripple_solve(
             k, j, s, h, w, tables.as_ptr(), tables.len(), count, t, esis.as_ptr(), esis.len(), symbols.as_ptr(), symbols.len(),

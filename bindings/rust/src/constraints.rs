@@ -30,6 +30,8 @@ pub fn constraint_matrix(row: Row, tables: Tables, isis: &[Isi], words: &mut [u6
 /// The same without the H rows of 0. Refused: 9 below K' + H ids or above 65,535, then 8 where the words are too short.
 pub fn constraint_matrix_no_hdpc(row: Row, tables: Tables, isis: &[Isi], words: &mut [u64]) -> Result<Shape, Refusal> {
     let ([k, j, s, h, w], tables, ids) = (row.numbers(), tables.numbers(), isis.as_ptr().cast());
-    done(unsafe { sys::spoonripple_constraint_matrix_no_hdpc(k, j, s, h, w, tables.as_ptr(), tables.len(), ids, isis.len(), words.as_mut_ptr(), words.len()) })?;
+    done(unsafe {
+        sys::spoonripple_constraint_matrix_no_hdpc(k, j, s, h, w, tables.as_ptr(), tables.len(), ids, isis.len(), words.as_mut_ptr(), words.len())
+    })?;
     Ok(Shape { height: s as usize + isis.len(), width: row.sizes().l as usize })
 }

@@ -68,6 +68,8 @@ pub mod octets;
 pub mod parameters;
 mod refusal;
 pub mod slab;
+// A line a call.
+#[rustfmt::skip]
 #[doc(hidden)]
 #[allow(missing_docs)]
 pub mod sys;

@@ -4,6 +4,8 @@ use raptorq_lent::rng::lent::published;
 use raptorq_lent::systematic_constants::SYSTEMATIC_INDICES_AND_PARAMETERS as TABLE_2;
 use raptorq_lent::{Encoder, ObjectTransmissionInformation};
 use std::error::Error;
+use std::fmt::Display;
+use std::str::FromStr;
 
 /// A small generator of its own (xorshift64*), so that a seed loses the same packets on every machine.
 struct Random(u64);
@@ -29,9 +31,12 @@ struct Wish {
     seed: u64,
 }
 
+fn number<N: FromStr<Err: Display>>(option: &str, value: &str) -> Result<N, String> {
+    value.parse().map_err(|why| format!("{option} {value}: {why}"))
+}
+
 fn wish() -> Result<Wish, Box<dyn Error>> {
-    let mut w =
-        Wish { files: vec![], symbol_size: 64, alignment: 1, lose: 0, repair: 0, first_repair: 0, twice: 0, damage: "none".into(), seed: 1 };
+    let mut w = Wish { files: vec![], symbol_size: 64, alignment: 1, lose: 0, repair: 0, first_repair: 0, twice: 0, damage: "none".into(), seed: 1 };
     let mut words = std::env::args().skip(1);
     while let Some(word) = words.next() {
         if !word.starts_with("--") {
@@ -40,19 +45,22 @@ fn wish() -> Result<Wish, Box<dyn Error>> {
         }
         let value = words.next().ok_or(format!("{word} needs a value"))?;
         match word.as_str() {
-            "--symbol-size" => w.symbol_size = value.parse()?,
-            "--align" => w.alignment = value.parse()?,
-            "--lose" => w.lose = value.parse()?,
-            "--repair" => w.repair = value.parse()?,
-            "--first-repair" => w.first_repair = value.parse()?,
-            "--twice" => w.twice = value.parse()?,
+            "--symbol-size" => w.symbol_size = number(&word, &value)?,
+            "--align" => w.alignment = number(&word, &value)?,
+            "--lose" => w.lose = number(&word, &value)?,
+            "--repair" => w.repair = number(&word, &value)?,
+            "--first-repair" => w.first_repair = number(&word, &value)?,
+            "--twice" => w.twice = number(&word, &value)?,
             "--damage" => w.damage = value,
-            "--seed" => w.seed = value.parse()?,
+            "--seed" => w.seed = number(&word, &value)?,
             _ => return Err(format!("there is no option {word}").into()),
         }
     }
     if w.files.len() != 2 {
         return Err("it takes FILE and OUT".into());
+    }
+    if w.symbol_size == 0 || w.alignment == 0 || w.symbol_size % u16::from(w.alignment) != 0 {
+        return Err("the symbol size is a multiple of the alignment, and neither is 0".into());
     }
     Ok(w)
 }
@@ -80,17 +88,15 @@ fn arrivals(w: &Wish, encoder: &Encoder, random: &mut Random) -> Result<Vec<Vec<
 
 /// What happens to it on the way.
 fn damage(w: &Wish, head: &mut [u8], packets: &mut [Vec<u8>], random: &mut Random) -> Result<(), Box<dyn Error>> {
-    let some = random.below(packets.len().max(1));
-    let last = packets.len().wrapping_sub(1);
-    let at = 4 + random.below(w.symbol_size.into());
+    let (some, at) = (random.below(packets.len().max(1)), 4 + random.below(w.symbol_size.into()));
+    let none = "no packet came that could be damaged";
+    let packet = packets.get_mut(some).ok_or(none);
     match w.damage.as_str() {
         "none" => {}
-        "symbol" => packets[some][at] ^= 1 << random.below(8),
-        "id" => packets[some][3] ^= 1,
-        "block" => packets[some][0] = 1,
-        "end" => {
-            packets[last].pop();
-        }
+        "symbol" => packet?[at] ^= 1 << random.below(8),
+        "id" => packet?[3] ^= 1,
+        "block" => packet?[0] = 1,
+        "end" => drop(packets.last_mut().ok_or(none)?.pop()),
         "empty" => head[..5].fill(0),
         "alignment" => head[11] = 0,
         "blocks" => head[8] = 2,
@@ -102,8 +108,8 @@ fn damage(w: &Wish, head: &mut [u8], packets: &mut [Vec<u8>], random: &mut Rando
 
 fn deliver() -> Result<(), Box<dyn Error>> {
     let w = wish()?;
-    let object = std::fs::read(&w.files[0])?;
-    let k = object.len().div_ceil(w.symbol_size.max(1).into());
+    let object = std::fs::read(&w.files[0]).map_err(|why| format!("{}: {why}", w.files[0]))?;
+    let k = object.len().div_ceil(w.symbol_size.into());
     let row = TABLE_2.iter().find(|row| row.0 as usize >= k).ok_or("one block holds at most 56,403 symbols: take a larger --symbol-size")?;
     let encoder = Encoder::new(&object, ObjectTransmissionInformation::new(object.len() as u64, w.symbol_size, 1, 1, w.alignment));
     let mut random = Random(w.seed.wrapping_mul(0x9E37_79B9_7F4A_7C15) | 1);
@@ -114,7 +120,7 @@ fn deliver() -> Result<(), Box<dyn Error>> {
     }
     damage(&w, &mut out, &mut packets, &mut random)?;
     out.extend(packets.concat());
-    std::fs::write(&w.files[1], &out)?;
+    std::fs::write(&w.files[1], &out).map_err(|why| format!("{}: {why}", w.files[1]))?;
     eprintln!("F {} T {} K {k} K' {}: {} packets, damage: {}, {} bytes", object.len(), w.symbol_size, row.0, packets.len(), w.damage, out.len());
     Ok(())
 }
