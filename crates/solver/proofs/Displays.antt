@@ -1,16 +1,17 @@
 -- What is displayed: the loops over the ids, the place of a symbol, and that the contracts settle the answer.
 -- Assumes nothing.
-use mathlib.Core.Path.{_≡_, refl, sym, ap, _∙_}
+use mathlib.Core.Path.{_≡_, refl, sym, ap}
 use mathlib.Core.Bool.{Bool, true, false, not}
 use mathlib.Core.List.{List, [], _∷_}
 use Prim.Native.Nat.{ℕ, zero, suc, _+_, _*_, _≤_, _<_}
-use native.Mathlib.Nat.{mul-le-mul-right, add-mul, one-mul, not-suc-le-zero, le-of-suc-le-suc}
+use native.Mathlib.Nat.{not-suc-le-zero, le-of-suc-le-suc}
 use native.Mathlib.Omega.{arith}
 use borrow.Author.Tests.{eq-eqb, ne-eqb, ltb-true, ltb-false, leb-false, eqb-true, not-false}
 use lib.Dec.{leb, ltb, eqb}
 use lib.ListN.{length, getD}
 use Rattle.field.specs.Choice.{pick}
 use Rattle.field.specs.Answer.{given, numberOf}
+use Rattle.field.proofs.Parts.{block-ends}
 use Rattle.field.proofs.Answers.{given-only, refused-only, given-not-refused, number-only}
 use Rattle.field.proofs.Refusals.{passed, passed-before}
 use Rattle.solver.specs.Display.{anyLarge, standing, answerable, Place, arrived, rebuilt, whereof, located, outcome}
@@ -54,13 +55,6 @@ standing-le (x ∷ es) i = go (eqb x i) (standing-le es i)
     go : (b : Bool) → standing es i ≤ length es → pick b 0 (suc (standing es i)) ≤ suc (length es)
     go true h = omega arith
     go false h = omega arith
-
--- part p of n parts of t ends within n · t
-pub inside : {p n : ℕ} (t : ℕ) → p < n → p * t + t ≤ n * t
-inside {p} {n} t h =
-    let e : (p + 1) * t ≡ p * t + t = add-mul p 1 t ∙ ap (λ (x : ℕ). p * t + x) (one-mul t) in
-    let l : (p + 1) * t ≤ n * t = mul-le-mul-right t (omega arith) in
-    omega arith
 
 -- the answer of `locate` is settled
 pub located-only : (p q : Shown) → outcome p ≡ outcome q → p ≡ q
@@ -113,7 +107,7 @@ module _ (k t : ℕ) (es : List ℕ) (came built i s : ℕ) where
       go : (b : Bool) → ltb (standing es i) (length es) ≡ b → pick b (arrived (standing es i * t)) (rebuilt (i * t)) ≡ arrived s → Asked (length es) came built k t i → s + t ≤ came
       go true q m a =
           let z : standing es i * t ≡ s = cc in
-          omega (arith, inside t (ltb-true (standing es i) (length es) q), a .whole)
+          omega (arith, block-ends t (ltb-true (standing es i) (length es) q), a .whole)
       go false q m a = absurd (let z : _≡_ {A = ℕ} 0 1 = cc in omega arith)
 
   pub rebuilt-in : located k t es came built i ≡ given (rebuilt s) → s + t ≤ built
@@ -123,4 +117,4 @@ module _ (k t : ℕ) (es : List ℕ) (came built i s : ℕ) where
       go true m a = absurd (let z : _≡_ {A = ℕ} 0 1 = cc in omega arith)
       go false m a =
           let z : i * t ≡ s = cc in
-          omega (arith, inside t (a .inside-k), a .room)
+          omega (arith, block-ends t (a .inside-k), a .room)

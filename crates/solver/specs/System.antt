@@ -75,15 +75,18 @@ pub record Laid (r : Row) (v : List ℕ) (k t : ℕ) (es xs d d₁ : List ℕ) :
   pub blank : (i : ℕ) → i < r .s + r .h → (b : ℕ) → b < t → cell t d₁ (sent r k es + i) b ≡ 0
   pub high : (x : ℕ) → equations r k (length es) * t ≤ x → getD d₁ x 0 ≡ getD d x 0
 
+-- refusal 8: stores of a, d and o octets, for n arrivals
+abbrev pub roomToSolve : Row → ℕ → ℕ → ℕ → ℕ → ℕ → ℕ → Outcome (Unit {0})
+roomToSolve r k t n a d o =
+    unless (ltb a (equations r k n * lOf r)) 8 (unless (ltb d (equations r k n * t)) 8 (unless (ltb o (lOf r * t)) 8 (given tt)))
+
 -- the refusals, on numbers: 4, 5, 9, 10, 8. Tables of `tables` numbers, n arrivals, `large` if an ESI is too large, symbols of `came` octets,
 -- and stores of a, d and o octets
 abbrev pub solvable : Row → ℕ → ℕ → ℕ → ℕ → Bool → ℕ → ℕ → ℕ → ℕ → Outcome (Unit {0})
 solvable r tables k t n large came a d o =
     unless (not (obeys r)) 4 (unless (not (eqb tables 1024)) 5
     (unless large 9 (unless (ltb k 1) 9 (unless (ltb (r .k) k) 9 (unless (ltb 65535 n) 9
-    (unless (eqb t 0) 10 (unless (not (eqb came (n * t))) 10
-    (unless (ltb a (equations r k n * lOf r)) 8 (unless (ltb d (equations r k n * t)) 8 (unless (ltb o (lOf r * t)) 8
-    (given tt)))))))))))
+    (unless (eqb t 0) 10 (unless (not (eqb came (n * t))) 10 (roomToSolve r k t n a d o))))))))
 
 -- the same, of a call
 abbrev pub admitted : Row → List ℕ → ℕ → ℕ → (es xs a d o : List ℕ) → Outcome (Unit {0})

@@ -1,7 +1,9 @@
 // The intermediate symbols of a block, out of the packets that arrived.
 ghost use mathlib.Core.Path.{_≡_};
+ghost use Prim.Native.Nat.{_≤_};
 ghost use Rattle.field.specs.Answer.{done};
-ghost use Rattle.solver.specs.System.{Solves, solvable};
+ghost use Rattle.headers.specs.Row.{Obeys};
+ghost use Rattle.solver.specs.System.{Solves, roomToSolve, solvable};
 use crate::beneath::call;
 use crate::beneath::esis;
 use crate::verdict::Verdict;
@@ -14,6 +16,25 @@ use headers::row::Row;
 pub enum Solution {
     Given(Verdict),
     Refused(Refusal),
+}
+
+// Refusal 8: a store is too short for M rows of L octets, for M symbols, or for L symbols.
+fn room(r: Row, k: u32, t: u16, n: usize, rows: usize, values: usize, out: usize) -> Answer
+    requires { ⌜ Obeys r × (k ≤ r .k) × (n ≤ 65535) ⌝ }
+    ensures { λ a. ⌜ done a ≡ roomToSolve r k t n rows values out ⌝ }
+{
+    let m = (r.s + r.h + (r.k - k)) as usize + n;
+    let l = (r.k + r.s + r.h) as usize;
+    if rows < m * l {
+        return Answer::Refused(Refusal::WrongLength);
+    }
+    if values < m * t as usize {
+        return Answer::Refused(Refusal::WrongLength);
+    }
+    if out < l * t as usize {
+        return Answer::Refused(Refusal::WrongLength);
+    }
+    Answer::Done
 }
 
 // The refusals, on numbers alone.
@@ -55,18 +76,7 @@ fn may(
     if came != n * t as usize {
         return Answer::Refused(Refusal::BadSize);
     }
-    let m = (r.s + r.h + (r.k - k)) as usize + n;
-    let l = (r.k + r.s + r.h) as usize;
-    if rows < m * l {
-        return Answer::Refused(Refusal::WrongLength);
-    }
-    if values < m * t as usize {
-        return Answer::Refused(Refusal::WrongLength);
-    }
-    if out < l * t as usize {
-        return Answer::Refused(Refusal::WrongLength);
-    }
-    Answer::Done
+    room(r, k, t, n, rows, values, out)
 }
 
 // Solved, contradiction or open; the used parts of both scratch stores are 0 afterwards.

@@ -3,10 +3,8 @@
 use native.Mathlib.Nat.{mul-le-mul}
 use native.Mathlib.Omega.{arith}
 use borrow.Author.Tests.{lt-ltb, le-ltb, eq-eqb, ne-eqb}
-use Rattle.headers.specs.Row.{lOf}
 use Rattle.headers.proofs.Tests.{granted, denied}
 use Rattle.headers.proofs.Accepted.{obeyed, broken}
-use Rattle.solver.specs.System.{equations}
 use borrow.Author.Needs.{needs}
 use Rattle.solver.proofs.solver.may.Statement.{statement}
 use Rattle.solver.proofs.solver.may.Tie as tie
@@ -41,47 +39,11 @@ mul-if8 c = let a = c .before .before .before .before .before .before .before .b
 returns-8 : tie.Need-returns-8
 returns-8 c = simp (obeyed (granted (c .before .before .before .before .before .before .before .before .before .obeys .result) (c .before .before .before .before .before .before .before .before .if1 .left) (c .before .before .before .before .before .before .before .before .before .obeys .ensures)), eq-eqb _ _ (c .before .before .before .before .before .before .before .if2 .left), c .before .before .before .before .before .before .if3 .left, le-ltb _ _ (c .before .before .before .before .before .if4 .left), le-ltb _ _ (c .before .before .before .if5 .left), le-ltb 65535 _ (c .before .before .if6 .left), ne-eqb _ _ (c .before .if7 .left), ne-eqb _ _ (c .if8 .taken))
 
-add-m : tie.Need-add-m
-add-m c = let o = granted (c .before .before .before .before .before .before .before .before .before .before .obeys .result) (c .before .before .before .before .before .before .before .before .before .if1 .left) (c .before .before .before .before .before .before .before .before .before .before .obeys .ensures) in omega (arith, o .l-high)
-
-add-m-2 : tie.Need-add-m-2
-add-m-2 c = let o = granted (c .before .before .before .before .before .before .before .before .before .before .before .obeys .result) (c .before .before .before .before .before .before .before .before .before .before .if1 .left) (c .before .before .before .before .before .before .before .before .before .before .before .obeys .ensures) in omega (arith, o .l-high)
-
-cast-m : tie.Need-cast-m
-cast-m c = search needs
-
-add-m-3 : tie.Need-add-m-3
-add-m-3 c = let o = granted (c .before .before .before .before .before .before .before .before .before .before .before .obeys .result) (c .before .before .before .before .before .before .before .before .before .before .if1 .left) (c .before .before .before .before .before .before .before .before .before .before .before .obeys .ensures) in omega (arith, o .l-high)
-
-add-l : tie.Need-add-l
-add-l c = let o = granted (c .before .before .before .before .before .before .before .before .before .before .before .before .obeys .result) (c .before .before .before .before .before .before .before .before .before .before .before .if1 .left) (c .before .before .before .before .before .before .before .before .before .before .before .before .obeys .ensures) in omega (arith, o .l-high)
-
-add-l-2 : tie.Need-add-l-2
-add-l-2 c = let o = granted (c .before .before .before .before .before .before .before .before .before .before .before .before .before .obeys .result) (c .before .before .before .before .before .before .before .before .before .before .before .before .if1 .left) (c .before .before .before .before .before .before .before .before .before .before .before .before .before .obeys .ensures) in omega (arith, o .l-high)
-
-cast-l : tie.Need-cast-l
-cast-l c = search needs
-
-mul-if9 : tie.Need-mul-if9
-mul-if9 c = let a = c .before .before .before .before .before .before .before .before .before .before .before .before .before .before .args in let o = granted (c .before .before .before .before .before .before .before .before .before .before .before .before .before .obeys .result) (c .before .before .before .before .before .before .before .before .before .before .before .before .if1 .left) (c .before .before .before .before .before .before .before .before .before .before .before .before .before .obeys .ensures) in omega (arith, mul-le-mul {n₁ = equations (a .r) (a .k) (a .n)} {m₁ = lOf (a .r)} {n₂ = 200000} {m₂ = 65535} (omega (arith, o .l-high)) (o .l-high))
+room-requires : tie.Need-room-requires
+room-requires c κs = (granted (c .before .before .before .before .before .before .before .before .before .obeys .result) (c .before .before .before .before .before .before .before .before .if1 .left) (c .before .before .before .before .before .before .before .before .before .obeys .ensures), c .before .before .before .if5 .left, c .before .before .if6 .left)
 
 returns-9 : tie.Need-returns-9
-returns-9 c = simp (obeyed (granted (c .before .before .before .before .before .before .before .before .before .before .before .before .before .before .obeys .result) (c .before .before .before .before .before .before .before .before .before .before .before .before .before .if1 .left) (c .before .before .before .before .before .before .before .before .before .before .before .before .before .before .obeys .ensures)), eq-eqb _ _ (c .before .before .before .before .before .before .before .before .before .before .before .before .if2 .left), c .before .before .before .before .before .before .before .before .before .before .before .if3 .left, le-ltb _ _ (c .before .before .before .before .before .before .before .before .before .before .if4 .left), le-ltb _ _ (c .before .before .before .before .before .before .before .before .if5 .left), le-ltb 65535 _ (c .before .before .before .before .before .before .before .if6 .left), ne-eqb _ _ (c .before .before .before .before .before .before .if7 .left), eq-eqb _ _ (c .before .before .before .before .before .if8 .left), lt-ltb _ _ (c .if9 .taken))
-
-mul-if10 : tie.Need-mul-if10
-mul-if10 c = let a = c .before .before .before .before .before .before .before .before .before .before .before .before .before .before .before .args in let o = granted (c .before .before .before .before .before .before .before .before .before .before .before .before .before .before .obeys .result) (c .before .before .before .before .before .before .before .before .before .before .before .before .before .if1 .left) (c .before .before .before .before .before .before .before .before .before .before .before .before .before .before .obeys .ensures) in omega (arith, mul-le-mul {n₁ = equations (a .r) (a .k) (a .n)} {m₁ = a .t} {n₂ = 200000} {m₂ = 65535} (omega (arith, o .l-high)) (omega arith))
-
-returns-10 : tie.Need-returns-10
-returns-10 c = simp (obeyed (granted (c .before .before .before .before .before .before .before .before .before .before .before .before .before .before .before .obeys .result) (c .before .before .before .before .before .before .before .before .before .before .before .before .before .before .if1 .left) (c .before .before .before .before .before .before .before .before .before .before .before .before .before .before .before .obeys .ensures)), eq-eqb _ _ (c .before .before .before .before .before .before .before .before .before .before .before .before .before .if2 .left), c .before .before .before .before .before .before .before .before .before .before .before .before .if3 .left, le-ltb _ _ (c .before .before .before .before .before .before .before .before .before .before .before .if4 .left), le-ltb _ _ (c .before .before .before .before .before .before .before .before .before .if5 .left), le-ltb 65535 _ (c .before .before .before .before .before .before .before .before .if6 .left), ne-eqb _ _ (c .before .before .before .before .before .before .before .if7 .left), eq-eqb _ _ (c .before .before .before .before .before .before .if8 .left), le-ltb _ _ (c .before .if9 .left), lt-ltb _ _ (c .if10 .taken))
-
-mul-if11 : tie.Need-mul-if11
-mul-if11 c = let a = c .before .before .before .before .before .before .before .before .before .before .before .before .before .before .before .before .args in let o = granted (c .before .before .before .before .before .before .before .before .before .before .before .before .before .before .before .obeys .result) (c .before .before .before .before .before .before .before .before .before .before .before .before .before .before .if1 .left) (c .before .before .before .before .before .before .before .before .before .before .before .before .before .before .before .obeys .ensures) in omega (arith, mul-le-mul {n₁ = lOf (a .r)} {m₁ = a .t} {n₂ = 65535} {m₂ = 65535} (o .l-high) (omega arith))
-
-returns-11 : tie.Need-returns-11
-returns-11 c = simp (obeyed (granted (c .before .before .before .before .before .before .before .before .before .before .before .before .before .before .before .before .obeys .result) (c .before .before .before .before .before .before .before .before .before .before .before .before .before .before .before .if1 .left) (c .before .before .before .before .before .before .before .before .before .before .before .before .before .before .before .before .obeys .ensures)), eq-eqb _ _ (c .before .before .before .before .before .before .before .before .before .before .before .before .before .before .if2 .left), c .before .before .before .before .before .before .before .before .before .before .before .before .before .if3 .left, le-ltb _ _ (c .before .before .before .before .before .before .before .before .before .before .before .before .if4 .left), le-ltb _ _ (c .before .before .before .before .before .before .before .before .before .before .if5 .left), le-ltb 65535 _ (c .before .before .before .before .before .before .before .before .before .if6 .left), ne-eqb _ _ (c .before .before .before .before .before .before .before .before .if7 .left), eq-eqb _ _ (c .before .before .before .before .before .before .before .if8 .left), le-ltb _ _ (c .before .before .if9 .left), le-ltb _ _ (c .before .if10 .left), lt-ltb _ _ (c .if11 .taken))
-
-returns-12 : tie.Need-returns-12
-returns-12 c = simp (obeyed (granted (c .before .before .before .before .before .before .before .before .before .before .before .before .before .before .before .before .obeys .result) (c .before .before .before .before .before .before .before .before .before .before .before .before .before .before .before .if1 .left) (c .before .before .before .before .before .before .before .before .before .before .before .before .before .before .before .before .obeys .ensures)), eq-eqb _ _ (c .before .before .before .before .before .before .before .before .before .before .before .before .before .before .if2 .left), c .before .before .before .before .before .before .before .before .before .before .before .before .before .if3 .left, le-ltb _ _ (c .before .before .before .before .before .before .before .before .before .before .before .before .if4 .left), le-ltb _ _ (c .before .before .before .before .before .before .before .before .before .before .if5 .left), le-ltb 65535 _ (c .before .before .before .before .before .before .before .before .before .if6 .left), ne-eqb _ _ (c .before .before .before .before .before .before .before .before .if7 .left), eq-eqb _ _ (c .before .before .before .before .before .before .before .if8 .left), le-ltb _ _ (c .before .before .if9 .left), le-ltb _ _ (c .before .if10 .left), le-ltb _ _ (c .if11 .left))
+returns-9 c = simp (obeyed (granted (c .before .before .before .before .before .before .before .before .before .before .obeys .result) (c .before .before .before .before .before .before .before .before .before .if1 .left) (c .before .before .before .before .before .before .before .before .before .before .obeys .ensures)), eq-eqb _ _ (c .before .before .before .before .before .before .before .before .if2 .left), c .before .before .before .before .before .before .before .if3 .left, le-ltb _ _ (c .before .before .before .before .before .before .if4 .left), le-ltb _ _ (c .before .before .before .before .if5 .left), le-ltb 65535 _ (c .before .before .before .if6 .left), ne-eqb _ _ (c .before .before .if7 .left), eq-eqb _ _ (c .before .if8 .left)) (c .room .ensures)
 
 pub may-spec : {M : Type 1} → statement M
 may-spec =
@@ -97,17 +59,5 @@ may-spec =
     returns-7
     mul-if8
     returns-8
-    add-m
-    add-m-2
-    cast-m
-    add-m-3
-    add-l
-    add-l-2
-    cast-l
-    mul-if9
-    returns-9
-    mul-if10
-    returns-10
-    mul-if11
-    returns-11
-    returns-12)
+    room-requires
+    returns-9)
