@@ -4,7 +4,7 @@ ghost use Rattle.field.specs.Answer.{done};
 ghost use Rattle.solver.specs.System.{Solves, solvable};
 use crate::beneath::call;
 use crate::beneath::esis;
-use crate::verdict::Verdict;
+use elimination::verdict::Verdict;
 use field::refusal::Answer;
 use field::refusal::Refusal;
 use headers::beneath::row;
