@@ -19,13 +19,13 @@ use Rattle.headers.proofs.Quotient.{ceil-enough}
 use Rattle.linear.specs.Bytes.{Bytes, tabulate}
 use Rattle.linear.proofs.Bytes.{length-tabulate, getD-tabulate}
 use Rattle.linear.specs.System.{System}
+use Rattle.elimination.specs.Verdict.{Means}
+use Rattle.elimination.specs.declared.verdict.Verdict.{Verdict}
+use Rattle.elimination.specs.declared.verdict.Verdict.the-variants as Verdicts
 use Rattle.solver.specs.System.{Solves, admitted, equations, systemOf}
 use Rattle.solver.specs.Display.{anyLarge}
-use Rattle.solver.specs.Verdict.{Means}
 use Rattle.solver.specs.declared.solver.Solution.{Solution}
 use Rattle.solver.specs.declared.solver.Solution.the-variants as Solutions
-use Rattle.solver.specs.declared.verdict.Verdict.{Verdict}
-use Rattle.solver.specs.declared.verdict.Verdict.the-variants as Verdicts
 use Rattle.solver.proofs.Displays.{large-none}
 use Rattle.field.specs.declared.refusal.Refusal.{Refusal}
 use Rattle.delivery.specs.Layout.{rowAt, entryAt, tablesOf, fOf, kOf, tOf, nOf, countOf, packetAt, esiAt, octetAt, esisOf, symbolsOf}

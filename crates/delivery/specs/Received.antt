@@ -11,9 +11,9 @@ use Rattle.headers.specs.declared.row.Row.{Row}
 use Rattle.linear.specs.System.{System}
 use Rattle.linear.specs.Bytes.{SolvedBytes, ContradictionBytes, OpenBytes, ShortfallBytes}
 use Rattle.encoding.specs.Encoded.{encoded}
+use Rattle.elimination.specs.declared.verdict.Verdict.{Verdict}
+use Rattle.elimination.specs.declared.verdict.Verdict.the-variants as Verdicts
 use Rattle.solver.specs.System.{equations, systemOf}
-use Rattle.solver.specs.declared.verdict.Verdict.{Verdict}
-use Rattle.solver.specs.declared.verdict.Verdict.the-variants as Verdicts
 use Rattle.delivery.specs.Layout.{rowAt, tablesOf, fOf, kOf, tOf, esisOf, symbolsOf}
 use Rattle.delivery.specs.Screen.{screen, stopOf}
 use Rattle.delivery.specs.declared.beneath.receiver.Outcome.{Outcome}

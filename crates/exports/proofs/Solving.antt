@@ -17,12 +17,12 @@ use Rattle.field.proofs.Writing.{written-once}
 use Rattle.headers.specs.Row.{obeys, lOf}
 use Rattle.headers.specs.declared.row.Row.{Row}
 use Rattle.headers.proofs.Accepted.{obeys-tells}
+use Rattle.elimination.specs.declared.verdict.Verdict.{Verdict}
+use Rattle.elimination.proofs.Once.{means-once}
 use Rattle.solver.specs.Display.{Place, arrived, rebuilt, anyLarge, located, whereof}
 use Rattle.solver.specs.System.{Solves, admitted, solvable, systemOf, equations}
 use Rattle.solver.specs.declared.solver.Solution.{Solution}
 use Rattle.solver.specs.declared.solver.Solution.the-variants.{Given, Refused}
-use Rattle.solver.specs.declared.verdict.Verdict.{Verdict}
-use Rattle.solver.proofs.Once.{means-once}
 use Rattle.exports.specs.Call.{Called, Kept, code, fitting, listed, thenRoomed, roomed}
 use Rattle.exports.specs.Solving.{verdictCode, lacking, taken, Told, Solving, placeNumbers, displayed}
 use Rattle.exports.proofs.Calls.{called-as}

@@ -6,11 +6,11 @@ use Prim.Native.Nat.{ℕ}
 use lib.ListN.{length}
 use Rattle.field.specs.Answer.{Outcome, given, refused, before}
 use Rattle.headers.specs.declared.row.Row.{Row}
+use Rattle.elimination.specs.declared.verdict.Verdict.{Verdict}
+use Rattle.elimination.specs.declared.verdict.Verdict.the-variants.{Solved, Contradiction, Open}
 use Rattle.solver.specs.Display.{Place, arrived, rebuilt, anyLarge, answerable, located}
 use Rattle.solver.specs.System.{Solves, admitted}
 use Rattle.solver.specs.declared.solver.Solution.the-variants.{Given}
-use Rattle.solver.specs.declared.verdict.Verdict.{Verdict}
-use Rattle.solver.specs.declared.verdict.Verdict.the-variants.{Solved, Contradiction, Open}
 use Rattle.exports.specs.Call.{Kept, fitting, listed, one, roomed}
 
 -- 100 and 101 are the numbers of no refusal

@@ -14,6 +14,7 @@ ghost use Rattle.exports.specs.Numbers.{row};
 ghost use Rattle.exports.specs.Solving.{Solving, displayed, lacking, taken, verdictCode};
 use crate::values::hand;
 use crate::values::told;
+use elimination::verdict::Verdict;
 use encoding::encoder;
 use field::refusal::number;
 use headers::row::Row;
@@ -21,7 +22,6 @@ use solver::display::Shown;
 use solver::display::locate;
 use solver::solver::Solution;
 use solver::solver::solve;
-use solver::verdict::Verdict;
 
 // The symbol of an ESI of a block of `count` source symbols of t octets, from its L intermediate symbols, at the front of `out`.
 #[no_mangle]

@@ -20,11 +20,11 @@ use Rattle.linear.specs.Bytes.{OctetSymbols, cell, FitsBytes, SolvedBytes, Open
 use Rattle.linear.proofs.AnswersBytes.{solved-bytes-lacks-nothing, open-bytes-lacks}
 use Rattle.linear.proofs.Independent.{most-unique}
 use Rattle.linear.proofs.Rows.{only-past}
+use Rattle.elimination.specs.declared.verdict.Verdict.{Verdict}
+use Rattle.elimination.specs.declared.verdict.Verdict.the-variants.{Solved, Contradiction, Open}
 use Rattle.solver.specs.Display.{anyLarge}
 use Rattle.solver.specs.System.{systemOf}
 use Rattle.solver.specs.declared.solver.Solution.the-variants.{Given}
-use Rattle.solver.specs.declared.verdict.Verdict.{Verdict}
-use Rattle.solver.specs.declared.verdict.Verdict.the-variants.{Solved, Contradiction, Open}
 use Rattle.solver.proofs.Admitted.{Admits, admits}
 use Rattle.promises.specs.Calls.{Call, Fitting, Single, Several, MostRows, setIn}
 use Rattle.promises.proofs.Fitting.{fitting-fits, fits-fitting}

@@ -19,10 +19,10 @@ use Rattle.linear.proofs.Growth.{shortfall-floor}
 use Rattle.linear.proofs.Independent.{chosen-once}
 use Rattle.linear.proofs.Kernel.{pigeon}
 use Rattle.encoding.specs.Encoded.{combined}
+use Rattle.elimination.specs.declared.verdict.Verdict.{Verdict}
+use Rattle.elimination.specs.declared.verdict.Verdict.the-variants.{Solved, Contradiction, Open}
 use Rattle.solver.specs.System.{fixed, equations, sentRow, rowOf, systemOf}
 use Rattle.solver.specs.declared.solver.Solution.the-variants.{Given}
-use Rattle.solver.specs.declared.verdict.Verdict.{Verdict}
-use Rattle.solver.specs.declared.verdict.Verdict.the-variants.{Solved, Contradiction, Open}
 use Rattle.solver.proofs.Holding.{row-arrival}
 use Rattle.promises.specs.Calls.{Call, Fitting, MostRows}
 use Rattle.promises.proofs.Exactly.{accepted, k-low, contradiction-none, solved-shortfall, solved-rows}

@@ -9,10 +9,10 @@ use Rattle.headers.specs.declared.row.Row.{Row}
 use Rattle.linear.specs.System.{Included}
 use Rattle.linear.proofs.Growth.{contradiction-remains, solved-same-bytes, solved-never-opens, shortfall-shrinks}
 use Rattle.linear.proofs.AnswersBytes.{solved-bytes-not-contradiction, open-bytes-not-contradiction}
+use Rattle.elimination.specs.declared.verdict.Verdict.{Verdict}
+use Rattle.elimination.specs.declared.verdict.Verdict.the-variants.{Solved, Contradiction, Open}
 use Rattle.solver.specs.System.{systemOf}
 use Rattle.solver.specs.declared.solver.Solution.the-variants.{Given}
-use Rattle.solver.specs.declared.verdict.Verdict.{Verdict}
-use Rattle.solver.specs.declared.verdict.Verdict.the-variants.{Solved, Contradiction, Open}
 use Rattle.solver.proofs.Calls.{among-included}
 use Rattle.promises.specs.Calls.{Call, Among, setIn}
 

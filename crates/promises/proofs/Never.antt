@@ -11,10 +11,10 @@ use Rattle.headers.specs.Row.{lOf}
 use Rattle.headers.specs.declared.row.Row.{Row}
 use Rattle.linear.specs.Bytes.{Block, FitsBytes, cell}
 use Rattle.encoding.specs.Encoded.{Encodes}
+use Rattle.elimination.specs.declared.verdict.Verdict.{Verdict}
+use Rattle.elimination.specs.declared.verdict.Verdict.the-variants.{Solved, Contradiction}
 use Rattle.solver.specs.System.{systemOf}
 use Rattle.solver.specs.declared.solver.Solution.the-variants.{Given}
-use Rattle.solver.specs.declared.verdict.Verdict.{Verdict}
-use Rattle.solver.specs.declared.verdict.Verdict.the-variants.{Solved, Contradiction}
 use Rattle.promises.specs.Calls.{Call, Meets, Fitting, Encoding, sent, setIn}
 use Rattle.promises.proofs.Fitting.{fits-fitting}
 use Rattle.promises.proofs.Exactly.{solved-single, contradiction-exactly}

@@ -9,12 +9,12 @@ use Rattle.headers.specs.declared.row.Row.{Row}
 use Rattle.linear.specs.System.{System, Included}
 use Rattle.linear.proofs.Growth.{same-solved, same-contradiction, same-open, same-shortfall}
 use Rattle.linear.proofs.AnswersBytes.{solved-bytes-once, shortfall-bytes-once, solved-bytes-not-contradiction, open-bytes-not-contradiction, solved-bytes-not-open}
+use Rattle.elimination.specs.Verdict.{Means}
+use Rattle.elimination.specs.declared.verdict.Verdict.{Verdict}
+use Rattle.elimination.specs.declared.verdict.Verdict.the-variants.{Solved, Contradiction, Open}
+use Rattle.elimination.proofs.Once.{means-once}
 use Rattle.solver.specs.System.{systemOf}
-use Rattle.solver.specs.Verdict.{Means}
 use Rattle.solver.specs.declared.solver.Solution.the-variants.{Given}
-use Rattle.solver.specs.declared.verdict.Verdict.{Verdict}
-use Rattle.solver.specs.declared.verdict.Verdict.the-variants.{Solved, Contradiction, Open}
-use Rattle.solver.proofs.Once.{means-once}
 use Rattle.promises.specs.Calls.{Call, Among, setIn}
 use Rattle.promises.proofs.Exactly.{contradiction-not-solved, open-not-solved}
 use Rattle.promises.proofs.Growth.{among-equations}

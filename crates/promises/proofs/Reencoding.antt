@@ -22,9 +22,9 @@ use Rattle.linear.specs.Bytes.{cell, Block}
 use Rattle.linear.proofs.Bytes.{cell-lt}
 use Rattle.encoding.specs.Encoded.{Encodes, allowed}
 use Rattle.encoding.proofs.Allowed.{never-long}
+use Rattle.elimination.specs.declared.verdict.Verdict.{Verdict}
+use Rattle.elimination.specs.declared.verdict.Verdict.the-variants.{Solved}
 use Rattle.solver.specs.declared.solver.Solution.the-variants.{Given}
-use Rattle.solver.specs.declared.verdict.Verdict.{Verdict}
-use Rattle.solver.specs.declared.verdict.Verdict.the-variants.{Solved}
 use Rattle.solver.proofs.Admitted.{small}
 use Rattle.promises.specs.Calls.{Call, Came, Meets, Fitting, Encoding, sent, setIn}
 use Rattle.promises.proofs.Exactly.{accepted, k-low, solved-single}

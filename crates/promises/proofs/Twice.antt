@@ -11,9 +11,9 @@ use lib.Seq.{getD-append-seam, getD-append-add}
 use Rattle.headers.specs.declared.row.Row.{Row}
 use Rattle.linear.specs.Bytes.{cell}
 use Rattle.linear.proofs.Bytes.{cell-lt}
+use Rattle.elimination.specs.declared.verdict.Verdict.{Verdict}
+use Rattle.elimination.specs.declared.verdict.Verdict.the-variants.{Solved, Contradiction}
 use Rattle.solver.specs.declared.solver.Solution.the-variants.{Given}
-use Rattle.solver.specs.declared.verdict.Verdict.{Verdict}
-use Rattle.solver.specs.declared.verdict.Verdict.the-variants.{Solved, Contradiction}
 use Rattle.promises.specs.Calls.{Call, Came, Among, sent, setIn}
 use Rattle.promises.proofs.Exactly.{accepted, contradiction-exactly}
 use Rattle.promises.proofs.Order.{order-free, order-free-out}

@@ -1,8 +1,4 @@
--- The laws of the solver, the encoding and the display. A crate above names these as `Rattle.solver.proofs.Once`.
-pub mod Rows
-pub mod Steps
-pub mod Finish
-pub mod Once
+-- The laws of the solver and the display. A crate above names these as `Rattle.solver.proofs.Settled`.
 pub mod Displays
 pub mod Order
 pub mod Filling

@@ -8,10 +8,10 @@ use Rattle.field.proofs.Answers.{given-not-refused, refused-only, number-only}
 use Rattle.field.proofs.Writing.{written-once}
 use Rattle.headers.specs.Row.{lOf}
 use Rattle.headers.specs.declared.row.Row.{Row}
+use Rattle.elimination.proofs.Once.{means-once}
 use Rattle.solver.specs.System.{Solves, systemOf}
 use Rattle.solver.specs.declared.solver.Solution.{Solution}
 use Rattle.solver.specs.declared.solver.Solution.the-variants.{Given, Refused}
-use Rattle.solver.proofs.Once.{means-once}
 
 pub solves-once : (r : Row) (v : List ℕ) (k t : ℕ) (es xs a d o a₁ d₁ o₁ a₂ d₂ o₂ : List ℕ) (x y : Solution)
     → Solves r v k t es xs a d o a₁ d₁ o₁ x → Solves r v k t es xs a d o a₂ d₂ o₂ y → (x ≡ y) × (a₁ ≡ a₂) × (d₁ ≡ d₂) × (o₁ ≡ o₂)

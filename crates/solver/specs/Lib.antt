@@ -1,6 +1,4 @@
--- What the contracts of `solver` cite. A crate above names these as `Rattle.solver.specs.Verdict`.
-pub mod Verdict
-pub mod Steps
+-- What the contracts of `solver` cite. A crate above names these as `Rattle.solver.specs.System`.
 pub mod Display
 pub mod Order
 pub mod System

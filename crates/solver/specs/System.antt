@@ -17,9 +17,9 @@ use Rattle.constraints.specs.Hdpc.{hdpcOf}
 use Rattle.constraints.specs.Ldpc.{ldpcOf}
 use Rattle.linear.specs.System.{System}
 use Rattle.linear.specs.Bytes.{cell}
+use Rattle.elimination.specs.Verdict.{Means}
 use Rattle.solver.specs.Display.{anyLarge}
 use Rattle.solver.specs.Order.{sent, isiOf, placeOf}
-use Rattle.solver.specs.Verdict.{Means}
 use Rattle.solver.specs.declared.solver.Solution.{Solution}
 use Rattle.solver.specs.declared.solver.Solution.the-variants.{Given, Refused}
 

@@ -1,11 +1,4 @@
-// The elimination in two lent stores: the coefficients of the equations, row after row, and their symbols. Each function here asks that its
-// places lie inside.
+// What the public calls rest on: a call that nothing refuses, whose stores are filled and then solved, and the test of the ids.
 pub mod call;
-pub mod coefficients;
-pub mod eliminate;
 pub mod esis;
 pub mod filling;
-pub mod finish;
-pub mod reduce;
-pub mod rows;
-pub mod steps;

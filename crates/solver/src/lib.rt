@@ -2,4 +2,3 @@
 pub mod beneath;
 pub mod display;
 pub mod solver;
-pub mod verdict;

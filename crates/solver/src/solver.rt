@@ -6,7 +6,7 @@ ghost use Rattle.headers.specs.Row.{Obeys};
 ghost use Rattle.solver.specs.System.{Solves, roomToSolve, solvable};
 use crate::beneath::call;
 use crate::beneath::esis;
-use crate::verdict::Verdict;
+use elimination::verdict::Verdict;
 use field::refusal::Answer;
 use field::refusal::Refusal;
 use headers::beneath::row;

@@ -12,13 +12,13 @@ use crate::beneath::packets;
 use crate::beneath::screen;
 use crate::beneath::screen::Screened;
 use crate::beneath::screen::Stop;
+use elimination::verdict::Verdict;
 use field::refusal::Refusal;
 use headers::beneath::row;
 use headers::beneath::util;
 use headers::row::Row;
 use solver::solver::Solution;
 use solver::solver::solve;
-use solver::verdict::Verdict;
 
 // Object: so many bytes, at the front of the lent store.
 pub enum Outcome {

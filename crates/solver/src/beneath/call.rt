@@ -4,11 +4,11 @@ ghost use Prim.Native.Nat.{ℕ, _*_, _<_, _≤_};
 ghost use lib.ListN.{length, getD};
 ghost use Rattle.field.specs.Runs.{Written};
 ghost use Rattle.headers.specs.Row.{Obeys, lOf};
+ghost use Rattle.elimination.specs.Verdict.{Means};
 ghost use Rattle.solver.specs.System.{equations, systemOf};
-ghost use Rattle.solver.specs.Verdict.{Means};
 use crate::beneath::filling;
-use crate::beneath::finish;
-use crate::verdict::Verdict;
+use elimination::beneath::finish;
+use elimination::verdict::Verdict;
 use headers::row::Row;
 
 pub fn run(

@@ -5,7 +5,7 @@ use native.Mathlib.Omega.{arith}
 use borrow.Author.Needs.{needs}
 use Rattle.field.proofs.Writing.{written-none, written-more}
 use Rattle.exports.proofs.Solving.{told-as}
-use Rattle.solver.specs.declared.verdict.Verdict.the-variants.{Solved, Contradiction, Open}
+use Rattle.elimination.specs.declared.verdict.Verdict.the-variants.{Solved, Contradiction, Open}
 use Rattle.exports.proofs.blocks.tell.Statement.{statement}
 use Rattle.exports.proofs.blocks.tell.Tie as tie
 

@@ -1,7 +1,7 @@
 -- `delivery::beneath::receiver::finish` meets its contract.
 -- Assumes nothing.
 use mathlib.Core.Path.{refl}
-use Rattle.solver.specs.declared.verdict.Verdict.the-variants as Verdicts
+use Rattle.elimination.specs.declared.verdict.Verdict.the-variants as Verdicts
 use Rattle.delivery.proofs.Settling.{finished}
 use borrow.Author.Needs.{needs}
 use Rattle.delivery.proofs.beneath.receiver.finish.Statement.{statement}

@@ -1,0 +1,114 @@
+-- What the slab's calls leave, as operations on rows; and where the rows lie.
+-- Assumes nothing.
+use mathlib.Core.Path.{_≡_, refl, sym, ap, _∙_}
+use mathlib.Core.Logic.{_≢_, _⊎_, inl, inr, ⊎-elim}
+use mathlib.Core.List.{List}
+use Prim.Native.Nat.{ℕ, _+_, _*_, _≤_, _<_}
+use native.Mathlib.Nat.{mul-le-mul-right}
+use native.Mathlib.Omega.{arith}
+use native.Mathlib.Decide.{ℕ-discrete, decLt}
+use borrow.Author.Tests.{eq-eqb, ne-eqb}
+use lib.ListN.{length, getD}
+use Rattle.field.specs.Octet.{plus, doubled, copies, times, squares, inverse, over}
+use Rattle.field.specs.Answer.{given, refused, divided}
+use Rattle.field.specs.Runs.{Apart, Written, added, fused, part, scaled}
+use Rattle.field.proofs.Laws.{one-times, inverse-lt}
+use Rattle.field.proofs.Parts.{part-at}
+use Rattle.field.proofs.Writing.{written-as}
+use Rattle.linear.specs.Bytes.{Bytes, cell}
+use Rattle.linear.specs.Rows.{RowAdded, RowTimes}
+use Rattle.linear.proofs.Rows.{row-times-one, moved-by-adding}
+use Rattle.elimination.specs.Steps.{Moved}
+
+-- ---- where
+
+-- a row ends where the next begins
+pub row-in : (n w i : ℕ) {len : ℕ} → i < n → n * w ≤ len → i * w + w ≤ len
+row-in n w i h l = omega (arith, mul-le-mul-right w h)
+
+-- two rows do not meet
+pub rows-apart : (n w i k : ℕ) {len : ℕ} → i < n → k < n → i ≢ k → n * w ≤ len → Apart len w (i * w) (k * w)
+rows-apart n w i k hi hk ne l = record { to-in = row-in n w i hi l; from-in = row-in n w k hk l; apart = go (decLt i k) }
+  where
+    go : Dec (i < k) → (i * w + w ≤ k * w) ⊎ (k * w + w ≤ i * w)
+    go (yes h) = inl (omega (arith, mul-le-mul-right w h))
+    go (no h) = let b : k < i = omega arith in inr (omega (arith, mul-le-mul-right w b))
+
+-- nor do they the other way round, in a store as long
+pub apart-back : {len long w i k : ℕ} → Apart len w i k → long ≡ len → Apart long w k i
+apart-back {len} {long} {w} {i} {k} a e = record { to-in = (let q = a .from-in in omega arith); from-in = (let q = a .to-in in omega arith); apart = ⊎-elim inr inl (a .apart) }
+
+-- a part that lies apart from what was written so far is as it was
+pub apart-still : {f : ℕ → ℕ} {xs ys : List ℕ} {w to from n : ℕ} → Written f xs ys to n → Apart (length xs) w to from → n ≤ w → (c : ℕ) → c < w
+    → getD ys (from + c) 0 ≡ getD xs (from + c) 0
+apart-still {f} {xs} {ys} {w} {to} {from} {n} s a l c h =
+    ⊎-elim (λ (p : to + w ≤ from). s .high (from + c) (omega arith)) (λ (p : from + w ≤ to). s .low (from + c) (omega arith)) (a .apart)
+
+-- one place more that is 0
+pub zeros-more : (f : ℕ → ℕ) {from x : ℕ} → ((k : ℕ) → k < x → from ≤ k → f k ≡ 0) → f x ≡ 0 → (k : ℕ) → k < x + 1 → from ≤ k → f k ≡ 0
+zeros-more f {from} {x} h z k l b = go (decLt k x)
+  where
+    go : Dec (k < x) → f k ≡ 0
+    go (yes q) = h k q b
+    go (no q) = let e : k ≡ x = omega arith in ap f e ∙ z
+
+-- ---- what
+
+-- the slab's sum, its source read in the whole store
+pub sum-rows : (w i k : ℕ) {xs ys : List ℕ} → Written (added xs (i * w) (part xs (k * w) w)) xs ys (i * w) w
+    → Written (λ c. plus (cell w xs i c) (cell w xs k c)) xs ys (i * w) w
+sum-rows w i k {xs} s = written-as s (λ c h. ap (plus (cell w xs i c)) (part-at xs (k * w) w c h))
+
+pub fused-rows : (w i k f : ℕ) {xs ys : List ℕ} → Written (fused xs (i * w) f (part xs (k * w) w)) xs ys (i * w) w → RowAdded w i k f xs ys
+fused-rows w i k f {xs} s = written-as s (λ c h. ap (λ (z : ℕ). plus (cell w xs i c) (times f z)) (part-at xs (k * w) w c h))
+
+pub scaled-row : (w i f : ℕ) {xs ys : List ℕ} → Written (scaled f (part xs (i * w) w)) xs ys (i * w) w → RowTimes w i f xs ys
+scaled-row w i f {xs} s = written-as s (λ c h. ap (times f) (part-at xs (i * w) w c h))
+
+-- two sums move a row
+pub moved : {w i k : ℕ} {xs ys zs : List ℕ} → i ≢ k → ((c : ℕ) → c < w → cell w xs i c ≡ 0)
+    → Written (added xs (i * w) (part xs (k * w) w)) xs ys (i * w) w
+    → Written (added ys (k * w) (part ys (i * w) w)) ys zs (k * w) w → Moved w i k xs zs
+moved {w} {i} {k} {xs} {ys} ne z s u =
+    let m = moved-by-adding i k ne z (sum-rows w i k s) (sum-rows w k i u) in
+    record { between = ys; copied = m .0; cleared = m .1 }
+
+-- ---- the inverse
+
+inverse-zero : inverse 0 ≡ 0
+unfolding times copies doubled inverse squares
+inverse-zero = refl
+
+inverse-one : inverse 1 ≡ 1
+unfolding times copies doubled inverse squares
+inverse-one = refl
+
+over-one : (x : ℕ) → over 1 x ≡ inverse x
+unfolding over
+over-one x = one-times (inverse x) (inverse-lt x)
+
+-- 1 divided by x, where that is answered and where it is refused
+pub quotient-inverse : (x y : ℕ) → given y ≡ divided 1 x → y ≡ inverse x
+quotient-inverse x y e = go (ℕ-discrete x 0)
+  where
+    go : Dec (x ≡ 0) → y ≡ inverse x
+    go (yes z) =
+        let q : given y ≡ refused 1 = rw (eq-eqb x 0 z) at e in
+        absurd (let u : _≡_ {A = ℕ} 0 1 = cc in omega arith)
+    go (no n) =
+        let q : given y ≡ given (over 1 x) = rw (ne-eqb x 0 n) at e in
+        let u : y ≡ over 1 x = cc in
+        u ∙ over-one x
+
+pub refused-inverse : (x : ℕ) {n : ℕ} → refused n ≡ divided 1 x → 0 ≡ inverse x
+refused-inverse x {n} e = go (ℕ-discrete x 0)
+  where
+    go : Dec (x ≡ 0) → 0 ≡ inverse x
+    go (yes z) = sym (ap inverse z ∙ inverse-zero)
+    go (no m) =
+        let q : refused n ≡ given (over 1 x) = rw (ne-eqb x 0 m) at e in
+        absurd (let u : _≡_ {A = ℕ} 0 1 = cc in omega arith)
+
+-- a row that is 1 there stays as it is
+pub times-inverse-one : {w f : ℕ} (i : ℕ) {xs : List ℕ} → Bytes xs → f ≡ 1 → RowTimes w i (inverse f) xs xs
+times-inverse-one i b e = row-times-one i b (ap inverse e ∙ inverse-one)

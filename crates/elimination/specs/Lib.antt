@@ -1,0 +1,3 @@
+-- What the contracts of `elimination` cite. A crate above names these as `Rattle.elimination.specs.Verdict`.
+pub mod Verdict
+pub mod Steps
