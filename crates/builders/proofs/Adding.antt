@@ -6,33 +6,33 @@ use Prim.Native.Nat.{ℕ, _+_, _-_, _/_, _≤_, _<_}
 use native.Mathlib.Decide.{ℕ-discrete}
 use native.Mathlib.Numerals.{add-one}
 use native.Mathlib.Omega.{arith}
-use borrow.Author.Tests.{eq-eqb, ne-eqb}
+use borrow.Author.Tests.{eq-eqb}
 use lib.Bits.{xor-zero-r}
 use lib.ListN.{length}
 use Rattle.field.specs.Octet.{plus}
 use Rattle.field.specs.Sum.{sum}
 use Rattle.field.proofs.Laws.{bit}
 use Rattle.field.proofs.Parts.{block-ends}
-use Rattle.field.proofs.Sums.{sum-zero, sum-last, unit-same, unit-other}
+use Rattle.field.proofs.Sums.{sum-zero, sum-last, unit-same}
 use Rattle.field.proofs.Xor.{assoc}
 use Rattle.stores.specs.Matrix.{entry, rowAt, rowWords}
 use Rattle.stores.specs.declared.matrix.DenseBinaryMatrix.{DenseBinaryMatrix}
 use Rattle.stores.proofs.Columns.{Put}
 use Rattle.stores.proofs.Entries.{entry-lt, set-entry, set-other}
 use Rattle.constraints.specs.Ldpc.{adds}
+use Rattle.constraints.proofs.Closed.{other-row, other-column}
 use Rattle.builders.specs.Adding.{Added, Lies}
 
 adds-here : (i j : ℕ) → adds i j i j ≡ 1
 unfolding adds
 adds-here i j = rw (eq-eqb i i refl) (unit-same j j refl)
 
-pub adds-else : (r c i j : ℕ) → ((r ≡ i) × (c ≡ j) → ⊥) → adds r c i j ≡ 0
-unfolding adds
+adds-else : (r c i j : ℕ) → ((r ≡ i) × (c ≡ j) → ⊥) → adds r c i j ≡ 0
 adds-else r c i j n = go (ℕ-discrete r i)
   where
     go : Dec (r ≡ i) → adds r c i j ≡ 0
-    go (yes e) = rw (eq-eqb r i e) (unit-other c j (λ z. n (e, z)))
-    go (no e) = rw (ne-eqb r i e)
+    go (yes e) = other-column r c i j (λ z. n (e, z))
+    go (no e) = other-row r c i j e
 
 -- a bit and its opposite
 flipped : (v : ℕ) → v < 2 → 1 - v ≡ plus v 1

@@ -1,4 +1,4 @@
--- The sums that the builder adds are the rows of the system, one by one; and a matrix that is built is settled.
+-- The sums that the builder adds are the rows of the system, one by one; so what it leaves is the constraint matrix.
 -- Assumes nothing.
 use mathlib.Core.Path.{_≡_, ap, ap₂, _∙_}
 use mathlib.Core.List.{List}
@@ -18,18 +18,15 @@ use Rattle.headers.specs.declared.row.Row.{Row}
 use Rattle.stores.specs.Matrix.{wordsOf}
 use Rattle.stores.proofs.Entries.{new-entry}
 use Rattle.constraints.specs.Encoding.{encOf}
-use Rattle.constraints.specs.Ldpc.{adds, one, two, three, ldpc, ldpcOf}
+use Rattle.constraints.specs.Ldpc.{one, two, three, ldpc, ldpcOf}
+use Rattle.constraints.proofs.Closed.{other-row}
 use Rattle.builders.specs.Adding.{Added, only}
 use Rattle.builders.specs.Built.{system, shaped, Built}
-use Rattle.builders.proofs.Adding.{adds-else}
 
 -- no LDPC row past the S-th
 rows-below : (s k : ℕ) → 0 < s → (one s k < s) × (two s k < s) × (three s k < s)
 unfolding one two three
 rows-below s k h = (mod-lt k h, mod-lt (k % s + (1 + k / s)) h, mod-lt ((k % s + (1 + k / s)) % s + (1 + k / s)) h)
-
-off : (r c i j : ℕ) → (r ≡ i → ⊥) → adds r c i j ≡ 0
-off r c i j n = adds-else r c i j (λ z. n (z .0))
 
 ldpc-past : (s w p r c : ℕ) → 0 < s → s ≤ r → ldpc s w p r c ≡ 0
 unfolding ldpc
@@ -38,9 +35,9 @@ ldpc-past s w p r c h l =
     (ap₂ plus
     (sum-zero (w - s) (λ k b.
     let q = rows-below s k h in
-    ap₂ plus (ap₂ plus (off r c (one s k) k (λ e. omega (arith, q .0))) (off r c (two s k) k (λ e. omega (arith, q .1)))) (off r c (three s k) k (λ e. omega (arith, q .2)))))
-    (sum-zero s (λ k b. off r c k (w - s + k) (λ e. omega arith))))
-    (sum-zero s (λ k b. ap₂ plus (off r c k (w + k % p) (λ e. omega arith)) (off r c k (w + (k + 1) % p) (λ e. omega arith))))
+    ap₂ plus (ap₂ plus (other-row r c (one s k) k (λ e. omega (arith, q .0))) (other-row r c (two s k) k (λ e. omega (arith, q .1)))) (other-row r c (three s k) k (λ e. omega (arith, q .2)))))
+    (sum-zero s (λ k b. other-row r c k (w - s + k) (λ e. omega arith))))
+    (sum-zero s (λ k b. ap₂ plus (other-row r c k (w + k % p) (λ e. omega arith)) (other-row r c k (w + (k + 1) % p) (λ e. omega arith))))
 
 module _ (from : ℕ) (f : ℕ → ℕ → ℕ) (n i c : ℕ) where
   here : (k : ℕ) → i ≡ from + k → only (from + k) (f k) i c ≡ f k c

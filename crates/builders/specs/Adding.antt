@@ -9,7 +9,6 @@ use Rattle.field.specs.Choice.{pick}
 use Rattle.field.specs.Octet.{plus}
 use Rattle.stores.specs.Matrix.{entry, rowWords, wordsOf}
 use Rattle.stores.specs.declared.matrix.DenseBinaryMatrix.{DenseBinaryMatrix}
-use Rattle.constraints.specs.Ldpc.{adds, one, two, three}
 
 -- ys is xs with f added to each entry, the bits past the width too; the words past the matrix stay
 pub record Added (f : ℕ → ℕ → ℕ) (xs ys : List ℕ) (m : DenseBinaryMatrix) : Type 0 where
@@ -21,10 +20,6 @@ pub record Added (f : ℕ → ℕ → ℕ) (xs ys : List ℕ) (m : DenseBinaryMa
 pub record Lies (m : DenseBinaryMatrix) (xs : List ℕ) : Type 0 where
   pub narrow : m .width < 65536
   pub room : wordsOf m ≤ length xs
-
--- what turn k of the first loop adds at (r, c): C[k] to three rows
-abbrev pub turn : ℕ → ℕ → ℕ → ℕ → ℕ
-turn s r c k = plus (plus (adds r c (one s k) k) (adds r c (two s k) k)) (adds r c (three s k) k)
 
 -- f in row i, and 0 in the others
 abbrev pub only : ℕ → (ℕ → ℕ) → ℕ → ℕ → ℕ

@@ -3,7 +3,7 @@
 ghost use mathlib.Core.Path.{_≡_};
 ghost use Prim.Native.Nat.{_+_, _≤_};
 ghost use lib.ListN.{length};
-ghost use Rattle.headers.specs.Row.{Obeys, lOf};
+ghost use Rattle.headers.specs.Row.{Obeys};
 ghost use Rattle.builders.specs.Adding.{Lies};
 ghost use Rattle.builders.specs.Built.{Builds, Built, shaped};
 use crate::beneath::adding;

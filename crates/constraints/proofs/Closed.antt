@@ -1,18 +1,20 @@
 -- The sums of the LDPC procedure, column by column; and that its ones do not meet, so that setting them is adding them.
 -- Assumes nothing.
 use mathlib.Core.Path.{_≡_, refl, sym, ap, ap₂, _∙_, subst}
-use Prim.Native.Nat.{ℕ, suc, _+_, _-_, _*_, _/_, _%_, _<_, _≤_}
-use native.Mathlib.Nat.{mod-lt, mod-eq-of-lt, mod-eq-sub-mod, mod-add-mod, div-lt-iff-lt-mul, div-add-mod', div-eq-of-lt, div-self, add-mul, one-mul, suc-mul}
+use Prim.Native.Nat.{ℕ, _+_, _-_, _*_, _/_, _%_, _<_, _≤_}
+use native.Mathlib.Nat.{mod-lt, mod-eq-of-lt, mod-eq-sub-mod, mod-add-mod, div-lt-iff-lt-mul, div-add-mod', div-eq-of-lt, div-self, add-mul, one-mul, mul-le-mul-right}
 use native.Mathlib.Decide.{decLt, ℕ-discrete}
 use native.Mathlib.Omega.{arith}
 use mathlib.Core.Logic.{_⊎_, inl, inr}
 use lib.Arith.{digits-div}
 use borrow.Author.Tests.{eq-eqb, ne-eqb}
-use lib.Bits.{xor-zero-r, xor-lt}
+use lib.Bits.{xor-zero-r}
 use Rattle.field.specs.Octet.{plus}
 use Rattle.field.specs.Sum.{sum, unit}
-use Rattle.field.proofs.Sums.{unit-same, unit-other, unit-lt, sum-zero, sum-only}
-use Rattle.constraints.specs.Ldpc.{adds, one, two, three, crossed, ldpc, Crosses}
+use Rattle.field.proofs.Sums.{unit-same, unit-other, sum-zero, sum-only}
+use Rattle.headers.specs.Quotient.{ceil}
+use Rattle.headers.proofs.Quotient.{ceil-enough}
+use Rattle.constraints.specs.Ldpc.{adds, one, two, three, turn, crossed, ldpc, Crosses}
 
 -- ---- what a turn adds
 
@@ -24,11 +26,11 @@ adds-column : (r c i : ℕ) → adds r c i c ≡ unit r i
 unfolding adds unit
 adds-column r c i = rw (eq-eqb c c refl)
 
-other-row : (r c i j : ℕ) → (r ≡ i → ⊥) → adds r c i j ≡ 0
+pub other-row : (r c i j : ℕ) → (r ≡ i → ⊥) → adds r c i j ≡ 0
 unfolding adds
 other-row r c i j n = rw (ne-eqb r i n)
 
-other-column : (r c i j : ℕ) → (c ≡ j → ⊥) → adds r c i j ≡ 0
+pub other-column : (r c i j : ℕ) → (c ≡ j → ⊥) → adds r c i j ≡ 0
 other-column r c i j n = go (ℕ-discrete r i)
   where
     go : Dec (r ≡ i) → adds r c i j ≡ 0
@@ -39,7 +41,7 @@ other-column r c i j n = go (ℕ-discrete r i)
 
 module _ (s w p r c : ℕ) where
   first : ℕ → ℕ
-  first k = plus (plus (adds r c (one s k) k) (adds r c (two s k) k)) (adds r c (three s k) k)
+  first k = turn s r c k
 
   second : ℕ → ℕ
   second k = adds r c k (w - s + k)
@@ -138,10 +140,9 @@ rows-apart s c o h = three-apart s (1 + c / s) (c % s) o (omega arith) (omega ar
 -- the rule on B bounds the step
 pub step-high : {s w p : ℕ} → Crosses s w p → (c : ℕ) → c < w - s → c / s + 1 < s
 step-high {s} {w} {p} k c h =
-    let a : w - s + s - 1 < s * s = div-lt-iff-lt-mul {k = s} {x = w - s + s - 1} {y = s} (omega (arith, k .s-low)) .0 (k .b-high) in
-    let e : suc (s - 1) ≡ s = omega (arith, k .s-low) in
-    let m : s * s ≡ (s - 1) * s + s = ap (λ (x : ℕ). x * s) (sym e) ∙ suc-mul (s - 1) s in
-    omega (arith, div-lt-iff-lt-mul {k = s} {x = c} {y = s - 1} (omega (arith, k .s-low)) .1 (omega (arith, a, m)))
+    let p : 0 < s = omega (arith, k .s-low) in
+    let b : ceil (w - s) s ≤ s - 1 = omega (arith, k .b-high) in
+    omega (arith, div-lt-iff-lt-mul {k = s} {x = c} {y = s - 1} p .1 (omega (arith, ceil-enough (w - s) s p, mul-le-mul-right {m = ceil (w - s) s} {n = s - 1} s b)))
 
 -- ---- so the crate's `set` agrees with the sums
 
@@ -180,24 +181,6 @@ module _ {s w p : ℕ} (k : Crosses s w p) (r c : ℕ) where
   pub clear-end : r < s → w ≤ c → (c ≡ w + r % p → ⊥) → (c ≡ w + (r + 1) % p → ⊥) → ldpc s w p r c ≡ 0
   clear-end h a x y =
       ldpc-last s w p r c (omega (arith, k .b-low)) a h ∙ rw (unit-other c (w + r % p) x, unit-other c (w + (r + 1) % p) y)
-
--- ---- each coefficient is 0 or 1
-
-plus-lt : (a b : ℕ) → a < 2 → b < 2 → plus a b < 2
-plus-lt a b = xor-lt 1 a b
-
-pub ldpc-lt : {s w p : ℕ} → Crosses s w p → (r c : ℕ) → r < s → ldpc s w p r c < 2
-ldpc-lt {s} {w} {p} k r c h = go (decLt c (w - s)) (decLt c w)
-  where
-    go : Dec (c < w - s) → Dec (c < w) → ldpc s w p r c < 2
-    go (yes a) b =
-        rw (ldpc-first s w p r c a)
-        (plus-lt (plus (unit r (one s c)) (unit r (two s c))) (unit r (three s c))
-        (plus-lt (unit r (one s c)) (unit r (two s c)) (unit-lt r (one s c)) (unit-lt r (two s c))) (unit-lt r (three s c)))
-    go (no a) (yes b) = rw (ldpc-second s w p r c (omega arith) b h) (unit-lt c (w - s + r))
-    go (no a) (no b) =
-        rw (ldpc-last s w p r c (omega (arith, k .b-low)) (omega arith) h)
-        (plus-lt (unit c (w + r % p)) (unit c (w + (r + 1) % p)) (unit-lt c (w + r % p)) (unit-lt c (w + (r + 1) % p)))
 
 -- ---- what the code writes, part by part
 

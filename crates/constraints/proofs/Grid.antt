@@ -51,9 +51,6 @@ column-right {f} {xs} {ys} {at} {i} {l} {c} w b r =
 
 -- ---- all columns from c on
 
-pub filled-none : (g : ℕ → ℕ → ℕ) (xs : List ℕ) (at h l : ℕ) → Filled g xs xs at h l l
-filled-none g xs at h l = record { size = refl; part = λ r q a b d. absurd (omega arith); low = λ k n. refl; high = λ k n. refl }
-
 pub filled-more : {g : ℕ → ℕ → ℕ} {f : ℕ → ℕ} {xs ys zs : List ℕ} {at h l c d : ℕ} → Filled g xs ys at h l d → d ≡ c + 1 → c < l
     → Column f ys zs at h l c → ((r : ℕ) → r < h → f r ≡ g r c) → Filled g xs zs at h l c
 filled-more {g} {f} {xs} {ys} {zs} {at} {h} {l} {c} {d} w q b u e =

@@ -4,7 +4,7 @@ use mathlib.Core.Path.{_≡_, sym, ap, ap₂, _∙_, subst}
 use mathlib.Core.Bool.{Bool, true, false}
 use mathlib.Core.List.{List}
 use Prim.Native.Nat.{ℕ, zero, suc, _+_, _-_, _*_, _%_, _<_, _≤_}
-use native.Mathlib.Nat.{mod-lt, mod-eq-of-lt, mod-eq-sub-mod, sub-self, add-assoc}
+use native.Mathlib.Nat.{mod-eq-of-lt, mod-eq-sub-mod, sub-self, add-assoc}
 use native.Mathlib.Decide.{decLt, ℕ-discrete}
 use native.Mathlib.Numerals.{add-one}
 use native.Mathlib.Omega.{arith}
@@ -17,7 +17,7 @@ use Rattle.field.specs.Octet.{plus, times, doubled, power}
 use Rattle.field.proofs.Laws.{times-lt, times-zero, times-one, times-plus, times-left-comm, power-lt, power-suc, doubled-times}
 use Rattle.field.proofs.Xor.{assoc}
 use Rattle.field.specs.Sum.{sum, unit}
-use Rattle.field.proofs.Sums.{unit-same, unit-other, unit-lt, sum-zero, sum-last, sum-lt}
+use Rattle.field.proofs.Sums.{unit-same, unit-other, sum-zero, sum-last, sum-lt}
 use Rattle.headers.specs.Rand.{random}
 use Rattle.headers.proofs.Tuples.{random-lt}
 use Rattle.constraints.specs.Grid.{Filled}
@@ -88,11 +88,7 @@ module _ (m : ℕ → ℕ) (octets : (k : ℕ) → m k < 256) where
 
 -- ---- the rows
 
-pub second-lt : (v : List ℕ) (h j : ℕ) → 0 < h → second v h j < h
-unfolding second
-second-lt v h j p = mod-lt (random v (j + 1) 6 h + random v (j + 1) 7 (h - 1) + 1) p
-
--- one row and the next, modulo h, are not the same
+-- less than h rows further on, modulo h, is another row
 apart : (h a b : ℕ) → a < h → b < h - 1 → a ≡ (a + b + 1) % h → ⊥
 apart h a b ha hb e = go (decLt (a + b + 1) h)
   where
@@ -161,10 +157,3 @@ next-is v n h c {xs} {ys} {at} {d} {r} {a} {b} w e p q hr ea eb =
     let x : getD ys (at + r * (n + h) + c + 1) 0 ≡ hdpc v n h r (c + 1) =
     ap (λ (k : ℕ). getD ys k 0) (add-assoc (at + r * (n + h)) c 1) ∙ w .part r (c + 1) hr (omega arith) (omega arith) in
     ap₂ plus (ap₂ (λ (y z : ℕ). plus (doubled y) z) x (ap (unit r) ea)) (ap (unit r) eb) ∙ sym (hdpc-next v n h r c p (omega arith))
-
-pub hdpc-lt : (v : List ℕ) (n h i c : ℕ) → hdpc v n h i c < 256
-hdpc-lt v n h i c = go (decLt c n)
-  where
-    go : Dec (c < n) → hdpc v n h i c < 256
-    go (yes b) = subst (λ (x : ℕ). x < 256) (sym (left v n h i c b)) (product-lt (mt v n h i) (mt-lt v n h i) n c)
-    go (no b) = omega (arith, hdpc-unit v n h i c (omega arith), unit-lt i (c - n))

@@ -6,6 +6,7 @@ use lib.Dec.{eqb}
 use Rattle.field.specs.Choice.{pick}
 use Rattle.field.specs.Octet.{plus}
 use Rattle.field.specs.Sum.{sum, unit}
+use Rattle.headers.specs.Quotient.{ceil}
 use Rattle.headers.specs.Row.{pOf}
 use Rattle.headers.specs.declared.row.Row.{Row}
 
@@ -23,7 +24,11 @@ two s k = (one s k + (1 + k / s)) % s
 unfoldable pub three : ℕ → ℕ → ℕ
 three s k = (two s k + (1 + k / s)) % s
 
--- what the turn of column c, one of the first B, adds to row r there
+-- what turn k of the first loop adds to row r at column c: C[k] to three rows
+abbrev pub turn : ℕ → ℕ → ℕ → ℕ → ℕ
+turn s r c k = plus (plus (adds r c (one s k) k) (adds r c (two s k) k)) (adds r c (three s k) k)
+
+-- the same for a turn's own column, c, one of the first B
 abbrev pub crossed : ℕ → ℕ → ℕ → ℕ
 crossed s r c = plus (plus (unit r (one s c)) (unit r (two s c))) (unit r (three s c))
 
@@ -32,8 +37,7 @@ crossed s r c = plus (plus (unit r (one s c)) (unit r (two s c))) (unit r (three
 unfoldable pub ldpc : ℕ → ℕ → ℕ → ℕ → ℕ → ℕ
 ldpc s w p r c =
     plus
-    (plus (sum (w - s) (λ k. plus (plus (adds r c (one s k) k) (adds r c (two s k) k)) (adds r c (three s k) k)))
-    (sum s (λ k. adds r c k (w - s + k))))
+    (plus (sum (w - s) (turn s r c)) (sum s (λ k. adds r c k (w - s + k))))
     (sum s (λ k. plus (adds r c k (w + k % p)) (adds r c k (w + (k + 1) % p))))
 
 -- row i, column c, of a row of parameters
@@ -45,6 +49,6 @@ pub record Crosses (s w p : ℕ) : Type 0 where
   pub s-low : 3 ≤ s
   pub s-odd : s % 2 ≡ 1
   pub b-low : s < w
-  pub b-high : (w - s + s - 1) / s < s
+  pub b-high : ceil (w - s) s < s
   pub p-low : 3 ≤ p
   pub all : w + p ≤ 65535

@@ -12,6 +12,7 @@ use headers::number::Number;
 use headers::row::Row;
 use headers::tuple::Tuple;
 
+// The bounds of a tuple, in document 01's order.
 fn bounded(w: u32, p1: u32, t: Tuple) -> bool
     requires { ⌜ w < 65536 ⌝ }
     ensures { λ r. ⌜ Told r (Bounds w p1 t) ⌝ }
@@ -26,28 +27,25 @@ fn bounded(w: u32, p1: u32, t: Tuple) -> bool
     if d + 2 > w {
         return false;
     }
-    let a = t.a;
-    if a < 1 {
+    if t.a < 1 {
         return false;
     }
-    if a >= w {
+    if t.a >= w {
         return false;
     }
     if t.b >= w {
         return false;
     }
-    let d1 = t.d1;
-    if d1 < 2 {
+    if t.d1 < 2 {
         return false;
     }
-    if d1 > 3 {
+    if t.d1 > 3 {
         return false;
     }
-    let a1 = t.a1;
-    if a1 < 1 {
+    if t.a1 < 1 {
         return false;
     }
-    if a1 >= p1 {
+    if t.a1 >= p1 {
         return false;
     }
     if t.b1 >= p1 {

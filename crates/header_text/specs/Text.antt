@@ -40,6 +40,7 @@ abbrev pub verdictLine : Outcome (Unit {0}) → List ℕ
 verdictLine (given _) = 97 ∷ 99 ∷ 99 ∷ 101 ∷ 112 ∷ 116 ∷ 101 ∷ 100 ∷ 10 ∷ []
 verdictLine (refused n) = refusedLine n
 
+-- what was read, and the verdict of the check; or the refusal of a part that could not be read
 abbrev pub told : Outcome ObjectTransmissionInformation → Outcome PayloadId → List ℕ
 told (refused n) i = refusedLine n
 told (given o) (refused n) = refusedLine n

@@ -1,4 +1,5 @@
-// Lines of text in a lent store. Each function answers where its lines end.
+// Lines of text in a lent store. Each function answers where its lines end, and asks for the room that the longest take: a line is its
+// label, at most 20 digits and a line feed.
 ghost use mathlib.Core.Path.{_≡_};
 ghost use Prim.Native.Nat.{_+_, _≤_, min};
 ghost use lib.ListN.{length};

@@ -1,4 +1,4 @@
--- The shift: what it gives below K and from K on, its bound, and that no two ESIs have one ISI.
+-- The shift: what it gives below K and from K on, and that no two ESIs have one ISI.
 -- Assumes nothing.
 use mathlib.Core.Path.{_≡_, sym, _∙_}
 use Prim.Native.Nat.{ℕ, _+_, _-_, _≤_, _<_}
@@ -13,13 +13,6 @@ module _ (k kp : ℕ) where
 
   pub shifted-from : (e : ℕ) → k ≤ e → shifted e k kp ≡ e + (kp - k)
   shifted-from e h = rw (le-ltb e k h)
-
-  pub shifted-le : (e : ℕ) → shifted e k kp ≤ e + (kp - k)
-  shifted-le e = go (decLt e k)
-    where
-      go : Dec (e < k) → shifted e k kp ≤ e + (kp - k)
-      go (yes l) = omega (arith, shifted-below e l)
-      go (no l) = omega (arith, shifted-from e (omega arith))
 
   -- each ISI is that of one ESI
   pub shifted-once : (e f : ℕ) → shifted e k kp ≡ shifted f k kp → e ≡ f

@@ -22,7 +22,7 @@ unfoldable pub clear : ℕ → ℕ → Bool
 clear n zero = true
 clear n (suc k) = both (not (eqb (n % (k + 2)) 0)) (clear n k)
 
--- the same as a test: the theorems `prime-true` and `prime-false` say so
+-- the same as a test: the theorem `prime-tells` says so
 unfoldable pub prime : ℕ → Bool
 prime n = both (leb 2 n) (clear n (n - 2))
 

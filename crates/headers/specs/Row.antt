@@ -3,11 +3,12 @@
 use mathlib.Core.Path.{_≡_}
 use mathlib.Core.Bool.{Bool, true, not}
 use mathlib.Core.List.{List, [], _∷_}
-use Prim.Native.Nat.{ℕ, _+_, _-_, _/_, _%_, _<_, _≤_}
+use Prim.Native.Nat.{ℕ, _+_, _-_, _%_, _<_, _≤_}
 use lib.Dec.{leb, ltb, eqb}
 use Rattle.field.specs.Choice.{both}
 use Rattle.field.specs.Answer.{Outcome, given, refused, numberOf, unless}
 use Rattle.headers.specs.Prime.{Prime, prime, firstPrime}
+use Rattle.headers.specs.Quotient.{ceil}
 use Rattle.headers.specs.declared.row.Row.{Row}
 use Rattle.headers.specs.declared.row.Sizes.{Sizes}
 use Rattle.headers.specs.declared.row.Checked.{Checked}
@@ -31,7 +32,7 @@ p1Of r = firstPrime (pOf r)
 
 -- ceil(B/S)
 abbrev pub bands : Row → ℕ
-bands r = (bOf r + r .s - 1) / r .s
+bands r = ceil (bOf r) (r .s)
 
 -- K', J, S, H, W: each below 65,536; K' 1..56,403; S odd, at least 3; H 2..255
 pub record Ranges (k j s h w : ℕ) : Type 0 where

@@ -7,7 +7,6 @@ use Rattle.field.specs.Choice.{pick}
 use Rattle.field.specs.Answer.{Outcome, given, refused, numberOf, unless}
 use Rattle.headers.specs.Row.{obeys, between}
 use Rattle.headers.specs.declared.row.Row.{Row}
-use Rattle.headers.specs.declared.ids.Isi.{Isi}
 use Rattle.headers.specs.declared.ids.Shifted.{Shifted}
 use Rattle.headers.specs.declared.ids.Shifted.the-variants.{Value, Refused}
 

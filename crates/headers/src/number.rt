@@ -1,6 +1,6 @@
+// What a call that gives a number answers.
 use field::refusal::Refusal;
 
-// What a call that gives a number answers.
 pub enum Number {
     Value(u32),
     Refused(Refusal),

@@ -1,7 +1,6 @@
 // Answers the questions on standard input, a line each, as the published crate answered them (`stdout`): both files are
 // written by differential/vectors. The first 1,024 lines are the random tables; then a question is a letter and seven
 // numbers, those that it does not need 0.
-ghost use mathlib.Core.Path.{_≡_};
 ghost use Prim.Native.Nat.{_<_, _≤_};
 ghost use lib.ListN.{length};
 use field::refusal;

@@ -1,16 +1,13 @@
-// The row of an internal symbol id, one octet to a column: ones at the places of its walk. No place stands twice in a walk, so that
-// setting a one is adding it.
-ghost use mathlib.Core.Path.{_≡_};
+// The row of a tuple, one octet to a column: ones at the places of its walk. No place stands twice in a walk, so that setting a one is
+// adding it.
 ghost use Prim.Native.Nat.{_+_, _≤_};
 ghost use lib.ListN.{length, getD};
 ghost use Rattle.field.specs.Runs.{Written};
 ghost use Rattle.field.specs.Sum.{sum, unit};
-ghost use Rattle.headers.specs.Tuples.{Bounds, Ready};
-ghost use Rattle.constraints.specs.Encoding.{Markable, enc, visits};
+ghost use Rattle.headers.specs.Tuples.{Bounds};
+ghost use Rattle.constraints.specs.Encoding.{Markable, visits};
 ghost use Rattle.constraints.specs.Walk.{Walks, places};
 use crate::beneath::walk;
-use headers::beneath::tuple;
-use headers::ids::Isi;
 use headers::tuple::Tuple;
 
 fn zero(out: &mut [u8], at: usize, n: usize)
@@ -48,19 +45,4 @@ pub fn tuple_row(out: &mut [u8], at: usize, w: u32, p: u32, p1: u32, t: Tuple)
     zero(out, at, l);
     let n = (t.d + t.d1) as usize;
     set_ones(out, at, l, &list, n);
-}
-
-// The row of an ISI, likewise.
-pub fn row(out: &mut [u8], at: usize, tables: &[u32], x: Isi, j: u32, w: u32, p: u32, p1: u32)
-    requires { ⌜ Walks w p p1 × Ready (now tables) j w p1 × (at + (w + p) ≤ length (now out)) ⌝ }
-    ensures { λ _. ⌜ Written (enc (now (tables .entry)) j w p p1 (x .0)) (now (out .entry)) (now (out .exit)) at (w + p) ⌝ }
-{
-    tuple_row(
-        out,
-        at,
-        w,
-        p,
-        p1,
-        tuple::intermediate_tuple(tables, x, w, j, p1),
-    );
 }

@@ -3,6 +3,7 @@ ghost use mathlib.Core.Path.{_≡_};
 ghost use Rattle.headers.specs.Told.{Told};
 ghost use Rattle.headers.specs.Row.{Obeys, Ranges, bOf, lOf, p1Of, pOf, sizesOf};
 use crate::beneath::prime;
+use crate::beneath::util;
 use crate::row::Row;
 use crate::row::Sizes;
 
@@ -64,7 +65,7 @@ pub fn obeys(r: Row) -> bool
     if l < w + 3 {
         return false;
     }
-    if (w - s + s - 1) / s >= s {
+    if util::int_div_ceil((w - s) as u64, s as u64) >= s as u64 {
         return false;
     }
     if l > 65535 {

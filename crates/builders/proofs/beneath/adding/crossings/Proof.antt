@@ -6,9 +6,9 @@ use native.Mathlib.Nat.{mod-lt}
 use native.Mathlib.Omega.{arith}
 use borrow.Author.Needs.{needs}
 use Rattle.field.specs.Sum.{sum}
-use Rattle.constraints.specs.Ldpc.{one, two, three}
+use Rattle.constraints.specs.Ldpc.{one, two, three, turn}
 use Rattle.constraints.proofs.Closed.{step-high}
-use Rattle.builders.specs.Adding.{Added, turn}
+use Rattle.builders.specs.Adding.{Added}
 use Rattle.builders.proofs.Adding.{added-then, sums-none, sums-more, sums-is, lies-on}
 use Rattle.builders.proofs.beneath.adding.crossings.Statement.{statement}
 use Rattle.builders.proofs.beneath.adding.crossings.Tie as tie

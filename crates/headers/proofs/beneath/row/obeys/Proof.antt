@@ -42,17 +42,20 @@ add-if4 c = let k = ranged (c .before .before .before .before .before) in omega 
 returns-4 : tie.Need-returns-4
 returns-4 c = search needs
 
-sub-if5 : tie.Need-sub-if5
-sub-if5 c = search needs
+sub-int-div-ceil : tie.Need-sub-int-div-ceil
+sub-int-div-ceil c = search needs
 
-add-if5 : tie.Need-add-if5
-add-if5 c = search needs
+cast-int-div-ceil : tie.Need-cast-int-div-ceil
+cast-int-div-ceil c = search needs
 
-sub-if5-2 : tie.Need-sub-if5-2
-sub-if5-2 c = search needs
+cast-int-div-ceil-2 : tie.Need-cast-int-div-ceil-2
+cast-int-div-ceil-2 c = search needs
 
-div-if5 : tie.Need-div-if5
-div-if5 c = let k = ranged (c .before .before .before .before .before .before) in omega arith
+int-div-ceil-requires : tie.Need-int-div-ceil-requires
+int-div-ceil-requires c κs = let k = ranged (c .before .before .before .before .before .before) in omega arith
+
+cast-if5 : tie.Need-cast-if5
+cast-if5 c = search needs
 
 returns-5 : tie.Need-returns-5
 returns-5 c = search needs
@@ -62,7 +65,7 @@ returns-6 c = search needs
 
 returns-7 : tie.Need-returns-7
 returns-7 c =
-    let tested = c .before .before .before .before .before .before in
+    let tested = c .before .before .before .before .before .before .before in
     let b = tested .before .is-prime .result in
     record {
       ranges = ranged (tested .before .before);
@@ -86,10 +89,11 @@ obeys-spec =
     add-l-2
     add-if4
     returns-4
-    sub-if5
-    add-if5
-    sub-if5-2
-    div-if5
+    sub-int-div-ceil
+    cast-int-div-ceil
+    cast-int-div-ceil-2
+    int-div-ceil-requires
+    cast-if5
     returns-5
     returns-6
     returns-7)
