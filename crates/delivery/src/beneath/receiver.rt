@@ -12,7 +12,6 @@ use crate::beneath::packets;
 use crate::beneath::screen;
 use crate::beneath::screen::Screened;
 use crate::beneath::screen::Stop;
-use field::refusal::Refusal;
 use headers::beneath::row;
 use headers::beneath::util;
 use headers::row::Row;
