@@ -9,4 +9,3 @@ pub mod Filling
 pub mod Holding
 pub mod Settled
 pub mod Admitted
-pub mod Calls
