@@ -6,11 +6,11 @@ use Prim.Native.Nat.{ℕ, _+_, _-_, _*_, _≤_, _<_}
 use native.Mathlib.Nat.{mul-le-mul, add-sub-cancel-left, add-mul, one-mul}
 use native.Mathlib.Decide.{decLt}
 use native.Mathlib.Omega.{arith}
-use borrow.Author.Tests.{lt-ltb, le-ltb, eq-eqb, ne-eqb, lt-leb, le-leb}
+use borrow.Author.Tests.{lt-ltb}
 use lib.Arith.{digits-div, digits-mod}
 use lib.ListN.{length, getD, set, take, drop}
 use lib.Seq.{getD-drop}
-use Rattle.field.specs.Answer.{Outcome, Left, done, given}
+use Rattle.field.specs.Answer.{Outcome, Left}
 use Rattle.field.specs.Runs.{Written}
 use Rattle.field.proofs.Writing.{written-is, written-from, written-more}
 use Rattle.field.proofs.Parts.{splice, part-is, part-length, part-at, written-part, written-then, block-ends}
@@ -19,11 +19,10 @@ use Rattle.headers.specs.Headers.{idAt}
 use Rattle.headers.specs.Row.{Obeys, lOf}
 use Rattle.headers.specs.Shift.{shifted}
 use Rattle.headers.specs.declared.row.Row.{Row}
-use Rattle.headers.proofs.Accepted.{obeyed}
 use Rattle.headers.proofs.Bytes.{number-lt}
 use Rattle.linear.specs.Bytes.{Bytes}
-use Rattle.encoding.specs.Encoded.{Encodes, allowed, encoded}
-use Rattle.encoding.proofs.Allowed.{never-long}
+use Rattle.encoding.specs.Encoded.{Encodes, encoded}
+use Rattle.encoding.proofs.Allowed.{Allowed, encodes-done}
 use Rattle.delivery.specs.Layout.{OneBlock, packet, packetAt, esiAt, octetAt}
 use Rattle.delivery.specs.Received.{sourceOctet}
 
@@ -86,23 +85,27 @@ module _ (d : List ℕ) (t i from : ℕ) (some : 0 < t) (e : from ≡ packetAt t
       let v = written-is (rw (part-is d from t) at u) (part-length d from t inside) in
       written-is (written-then w (written-from v (omega arith)) octet) (next i t)
 
--- a symbol may be encoded
-pub allowed-is : (r : Row) (tables k t esi have room : ℕ) → Obeys r → tables ≡ 1024 → 1 ≤ k → k ≤ r .k → esi < 16777216 → 0 < t → lOf r * t ≤ have → t ≤ room
-    → allowed r tables k t esi have room ≡ given tt
-allowed-is r tables k t esi have room o a l h s n m p =
-    simp (obeyed o, eq-eqb tables 1024 a, le-leb 1 k l, le-leb k (r .k) h, lt-leb 16777216 esi s, ne-eqb t 0 (omega arith), le-ltb have (lOf r * t) m, le-ltb room t p)
-
 -- the source symbol of one ESI more
 module _ (v : List ℕ) (r : Row) (k t i from : ℕ) (C ys : List ℕ) (o : Obeys r) (all : length v ≡ 1024) (h : k ≤ r .k)
     (below : i < k) (some : 0 < t) (have : lOf r * t ≤ length C) (e : from ≡ i * t) (inside : from + t ≤ length ys) where
   long : length (take t (drop from ys)) ≡ t
   long = part-length ys from t inside
 
+  may : Allowed r (length v) k t i (length C) (length (take t (drop from ys)))
+  may = record {
+    rules = o;
+    all = all;
+    k-low = omega arith;
+    k-high = h;
+    sent = omega (arith, o .ranges .k-16);
+    some = λ q. absurd (omega arith);
+    enough = have;
+    fits = omega (arith, long);
+  }
+
   encodes-it : {zs : List ℕ} {a : Plain.Answer} → Encodes v r k t i C (take t (drop from ys)) zs a → Written (encoded v r (shifted i k (r .k)) t C) (take t (drop from ys)) zs 0 t
-  encodes-it {zs} {a} u =
-      let g : done a ≡ given tt = u .answer ∙ never-long v r k t i (length C) (length (take t (drop from ys)))
-      ∙ allowed-is r (length v) k t i (length C) (length (take t (drop from ys))) o all (omega arith) h (omega (arith, o .ranges .k-16)) some have (omega (arith, long)) in
-      subst (λ (p : Outcome (Unit {0})). Left p (take t (drop from ys)) zs (Written (encoded v r (shifted i k (r .k)) t C) (take t (drop from ys)) zs 0 t)) g (u .memory)
+  encodes-it {zs} u =
+      subst (λ (p : Outcome (Unit {0})). Left p (take t (drop from ys)) zs (Written (encoded v r (shifted i k (r .k)) t C) (take t (drop from ys)) zs 0 t)) (encodes-done may u) (u .memory)
 
   octet-is : (x : ℕ) → x < t → encoded v r (shifted i k (r .k)) t C x ≡ sourceOctet v r t C (i * t + x)
   octet-is x l =

@@ -1,4 +1,4 @@
--- A row is its five numbers; what was written to the front of a store is a list; a line of words under another name.
+-- A row is its five numbers; bounds and lines under another name; what was written to the front of a store is a list; the line of a shortfall.
 -- Assumes nothing.
 use mathlib.Core.Path.{_≡_, refl, sym, ap, ap₂, _∙_, subst}
 use mathlib.Core.List.{List, _++_}

@@ -6,23 +6,24 @@ use mathlib.Core.List.{List}
 use Prim.Native.Nat.{ℕ, _+_, _*_, _<_, _≤_}
 use native.Mathlib.Decide.{ℕ-discrete}
 use native.Mathlib.Omega.{arith}
-use borrow.Author.Tests.{ltb-false, leb-false, eqb-true, eqb-false, not-false, le-ltb}
+use borrow.Author.Tests.{ltb-false, leb-false, eqb-true, eqb-false, not-false, le-ltb, le-leb, lt-leb, eq-eqb, ne-eqb}
 use lib.Dec.{eqb, leb, ltb}
 use lib.ListN.{length}
-use Rattle.field.specs.Answer.{Outcome, before, given, refused, unless}
+use Rattle.field.specs.Answer.{Outcome, before, done, given, refused, unless}
 use Rattle.field.specs.Runs.{Written}
 use Rattle.field.proofs.Refusals.{passed}
+use Rattle.field.specs.declared.refusal.Answer as Plain
 use Rattle.headers.specs.Row.{Obeys, obeys, between, lOf, pOf, p1Of}
 use Rattle.headers.specs.Tuples.{Bounds, tupleOf}
 use Rattle.headers.specs.declared.row.Row.{Row}
 use Rattle.headers.specs.declared.tuple.Tuple.{Tuple}
-use Rattle.headers.proofs.Accepted.{obeys-tells, l-is, ready}
+use Rattle.headers.proofs.Accepted.{obeys-tells, obeyed, l-is, ready}
 use Rattle.headers.proofs.Tests.{tells-both, tells-le}
 use Rattle.headers.proofs.Tuples.{bounded, three-below-four}
 use Rattle.constraints.specs.Encoding.{enc}
 use Rattle.constraints.specs.Walk.{places}
 use Rattle.headers.specs.Shift.{shifted}
-use Rattle.encoding.specs.Encoded.{allowed, encodes, encoded, walked, tupleOn, steps}
+use Rattle.encoding.specs.Encoded.{Encodes, allowed, encodes, encoded, walked, tupleOn, steps}
 
 pub record Allowed (r : Row) (tables k t esi have room : ℕ) : Type 0 where
   pub rules : Obeys r
@@ -60,6 +61,11 @@ allowed-well r tables k t esi have room e =
       fits = ltb-false room t (p8 .0);
     }
 
+-- and the other way round
+allowed-is : {r : Row} {tables k t esi have room : ℕ} → Allowed r tables k t esi have room → allowed r tables k t esi have room ≡ given tt
+allowed-is {r} {tables} {k} {t} {esi} {have} {room} h =
+    rw (obeyed (h .rules), eq-eqb tables 1024 (h .all), le-leb 1 k (h .k-low), le-leb k (r .k) (h .k-high), lt-leb 16777216 esi (h .sent), ne-eqb t 0 (h .some), le-ltb have (lOf r * t) (h .enough), le-ltb room t (h .fits))
+
 -- the generator gives no longer walk than the working list
 pub walk-fits : {r : Row} → Obeys r → (v : List ℕ) → length v ≡ 1024 → (x : ℕ) → steps (tupleOn v r x) ≤ 32
 walk-fits {r} o v e x =
@@ -82,6 +88,11 @@ never-long v r k t esi have room = go (allowed r (length v) k t esi have room) r
         let h = allowed-well r (length v) k t esi have room e in
         simp (le-ltb _ _ (walk-fits (h .rules) v (h .all) x))
     go (refused n) e = refl
+
+-- so a call that may encode is not refused
+pub encodes-done : {v : List ℕ} {r : Row} {k t esi : ℕ} {C xs ys : List ℕ} {a : Plain.Answer} → Allowed r (length v) k t esi (length C) (length xs)
+    → Encodes v r k t esi C xs ys a → done a ≡ given tt
+encodes-done {v} {r} {k} {t} {esi} {C} {xs} h u = u .answer ∙ never-long v r k t esi (length C) (length xs) ∙ allowed-is h
 
 -- the tuple that was generated, from what its makers promise
 pub tuple-is : (v : List ℕ) (r : Row) {z : Tuple} {p1 x y : ℕ} → z ≡ tupleOf v (r .j) (r .w) p1 x → p1 ≡ p1Of r → x ≡ y → z ≡ tupleOn v r y

@@ -12,7 +12,7 @@ use Rattle.field.specs.Octet.{plus, times}
 use Rattle.field.specs.Runs.{Written, added}
 use Rattle.field.specs.Sum.{sum, unit}
 use Rattle.field.proofs.Xor.{assoc}
-use Rattle.field.proofs.Laws.{one-times, times-comm, times-zero}
+use Rattle.field.proofs.Laws.{one-times, zero-times}
 use Rattle.field.proofs.Parts.{part-is, part-length, part-at, block-ends}
 use Rattle.field.proofs.Sums.{sum-same, sum-zero, sum-only, sum-last, sum-swap, sum-times-left, unit-same, unit-other}
 use Rattle.field.proofs.Writing.{written-is, written-as}
@@ -25,9 +25,6 @@ use Rattle.constraints.proofs.Distinct.{places-length, places-lt}
 use Rattle.linear.specs.Bytes.{cell}
 use Rattle.encoding.specs.Encoded.{Addable, walked, symbolAdded, symbolsAdded}
 
-zero-times : (a : ℕ) → times 0 a ≡ 0
-zero-times a = times-comm 0 a ∙ times-zero a
-
 -- a unit row picks its symbol
 picked : (l : ℕ) (g : ℕ → ℕ) (p : ℕ) → p < l → g p < 256 → sum l (λ c. times (unit c p) (g c)) ≡ g p
 picked l g p h b =
@@ -35,7 +32,7 @@ picked l g p h b =
     ∙ ap (λ (u : ℕ). times u (g p)) (unit-same p p refl) ∙ one-times (g p) b
 
 -- rows first, or places first
-pub visited : (l : ℕ) (g : ℕ → ℕ) (ps : List ℕ) → ((k : ℕ) → k < length ps → getD ps k 0 < l) → ((c : ℕ) → g c < 256)
+visited : (l : ℕ) (g : ℕ → ℕ) (ps : List ℕ) → ((k : ℕ) → k < length ps → getD ps k 0 < l) → ((c : ℕ) → g c < 256)
     → sum (length ps) (λ k. g (getD ps k 0)) ≡ sum l (λ c. times (visits ps c) (g c))
 unfolding visits
 visited l g ps h b =

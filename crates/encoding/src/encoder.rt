@@ -11,7 +11,7 @@ use headers::ids::Esi;
 use headers::ids::beneath;
 use headers::row::Row;
 
-// What is wrong with the row or with a number.
+// The first thing that is wrong with the row, the tables, a number or a length.
 fn check(
     r: Row,
     tables: usize,

@@ -6,9 +6,9 @@ use Prim.Native.Nat.{ℕ, _<_}
 use native.Mathlib.Omega.{arith}
 use Rattle.linear.specs.System.{System, Answer, contradicted, settled, left-open}
 use Rattle.linear.specs.Octets.{octets}
-use Rattle.linear.specs.Bytes.{Block, OctetSymbols, inOctets, pack, FitsBytes, SolvedBytes, ContradictionBytes, OpenBytes, ShortfallBytes, AnswerBytes, contradicted-bytes, settled-bytes, left-open-bytes}
+use Rattle.linear.specs.Bytes.{OctetSymbols, inOctets, pack, SolvedBytes, ContradictionBytes, OpenBytes, ShortfallBytes, AnswerBytes, contradicted-bytes, settled-bytes, left-open-bytes}
 use Rattle.linear.proofs.System.{same-sym, solved-same}
-use Rattle.linear.proofs.Answers.{shortfall-once}
+use Rattle.linear.proofs.Shortfall.{shortfall-once}
 use Rattle.linear.proofs.Existence.{answer}
 use Rattle.linear.proofs.Bytes.{block-pack, symbols-pack, solved-bytes, contradiction-bytes, open-bytes}
 
@@ -31,10 +31,6 @@ module _ {L T : ℕ} {S : System ℕ} where
   pub solved-bytes-not-open : {C : List ℕ} → SolvedBytes L T S C → ¬ OpenBytes L T S
   solved-bytes-not-open a b = b .differ (a .only (b .first) (b .first-block) (b .first-fits) ∙ sym (a .only (b .second) (b .second-block) (b .second-fits)))
 
-  -- if a set fits, the answer is no contradiction
-  pub fitting-never-contradicts : {C : List ℕ} → Block L T C → FitsBytes L T S C → ¬ ContradictionBytes L T S
-  fitting-never-contradicts {C} b f x = x .none C b f
-
   module _ (pos : 0 < T) (small : OctetSymbols T S) where
     -- every system has one of the three
     pub answer-bytes : AnswerBytes L T S
@@ -45,15 +41,6 @@ module _ {L T : ℕ} {S : System ℕ} where
         go (settled C a z) =
             settled-bytes (pack L T C) (solved-bytes L T S small (pack L T C) (block-pack L T C) (solved-same octets L T (same-sym (symbols-pack L T C)) a)) (record { lacks = z })
         go (left-open s o z p) = left-open-bytes s (open-bytes L T S small o) (record { lacks = z }) p
-
-    -- demand 3: open otherwise
-    pub open-otherwise : ¬ ContradictionBytes L T S → ((C : List ℕ) → ¬ SolvedBytes L T S C) → OpenBytes L T S
-    open-otherwise nc ns = go answer-bytes
-      where
-        go : AnswerBytes L T S → OpenBytes L T S
-        go (contradicted-bytes c) = absurd (nc c)
-        go (settled-bytes C a z) = absurd (ns C a)
-        go (left-open-bytes s o z p) = o
 
     -- the shortfall tells a system that is solved from one that is open
     pub solved-bytes-lacks-nothing : {C : List ℕ} → SolvedBytes L T S C → ShortfallBytes L T S 0

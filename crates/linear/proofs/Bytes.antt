@@ -6,8 +6,8 @@ use Prim.Native.Nat.{ℕ, zero, suc, _+_, _*_, _/_, _%_, _<_}
 use native.Mathlib.Nat.{mod-lt, mod-eq-of-lt, div-eq-of-lt, mul-add-div-right, mul-add-mod-self-right, div-lt-iff-lt-mul, div-add-mod', mul-le-mul-right, add-zero}
 use native.Mathlib.Omega.{arith}
 use native.Mathlib.Decide.{decLt}
-use lib.ListN.{length, take, drop, getD, List·getD-eq-default}
-use lib.Seq.{getD-take, getD-drop, ext-getD}
+use lib.ListN.{length, getD, List·getD-eq-default}
+use lib.Seq.{ext-getD}
 use Rattle.field.specs.Octet.{times}
 use Rattle.field.specs.Sum.{sum}
 use Rattle.field.proofs.Laws.{times-lt}
@@ -25,10 +25,6 @@ open Field octets using (_⊗_)
 infixl 70 _⊗_
 -- ---- entries of a matrix that stands in a list
 
--- the same entry, in the row taken out
-pub cell-row : (w : ℕ) (m : List ℕ) (i c : ℕ) → c < w → getD (take w (drop (i * w) m)) c 0 ≡ cell w m i c
-cell-row w m i c h = getD-take w (drop (i * w) m) c 0 h ∙ getD-drop (i * w) m c 0
-
 pub cell-lt : (w n i c : ℕ) → i < n → c < w → i * w + c < n * w
 cell-lt w n i c hi hc = omega (arith, mul-le-mul-right w hi)
 
@@ -37,9 +33,6 @@ pub cell-row-of : (w i c : ℕ) → c < w → (i * w + c) / w ≡ i
 cell-row-of w i c h =
     let pos : 0 < w = omega arith in
     mul-add-div-right pos i c ∙ ap (λ (z : ℕ). i + z) (div-eq-of-lt h) ∙ add-zero i
-
-pub cell-once : (w i k c d : ℕ) → c < w → d < w → i * w + c ≡ k * w + d → i ≡ k
-cell-once w i k c d hc hd e = sym (cell-row-of w i c hc) ∙ ap (λ (x : ℕ). x / w) e ∙ cell-row-of w k d hd
 
 pub pos-width : (n w x : ℕ) → x < n * w → 0 < w
 pos-width n zero x h = absurd (omega arith)

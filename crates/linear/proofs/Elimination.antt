@@ -91,7 +91,7 @@ module _ {L T m r : ℕ} {pivot : ℕ → ℕ} {a d : List ℕ} (s : Stepped L T
 pub next-pivot : {r : ℕ} (q : ℕ) (ps : List ℕ) → r < length ps → NextPivot r q (λ k. getD ps k 0) (λ k. getD (set ps r q) k 0)
 next-pivot {r} q ps h = record { old = λ k l. getD-set-other ps r k q 0 (λ e. omega arith); new = getD-set-same ps r q 0 h }
 
--- ---- (a), (b): the held rows go off row m, one after the other
+-- ---- the held rows go off row m, one after the other
 
 -- what holds up to j, and on to x
 on-to : {P : ℕ → Type 0} {p j x : ℕ} → ((k : ℕ) → p ≤ k → k < j → P k) → ((k : ℕ) → j ≤ k → k < x → P k) → (k : ℕ) → p ≤ k → k < x → P k
@@ -120,7 +120,7 @@ sift-past s z = record { stepped = s .stepped; gone = on-to (s .gone) z }
 -- ---- all held rows are off row m
 
 module _ {L T m r : ℕ} {pivot : ℕ → ℕ} {a d : List ℕ} (s : Sifted L T m r r pivot a d) where
-  -- (c): it is 0, and so is its symbol
+  -- it is 0, and so is its symbol
   pub drop-row : ((c : ℕ) → c < L → cell L a m c ≡ 0) → ((t : ℕ) → t < T → cell T d m t ≡ 0) → Stepped L T (m + 1) r pivot a d
   drop-row za zd = record {
     enough = (let q = s .stepped .enough in omega arith);
@@ -141,7 +141,7 @@ module _ {L T m r : ℕ} {pivot : ℕ → ℕ} {a d : List ℕ} (s : Sifted L T 
       symbol i h l t b (yes e) = ap (λ (z : ℕ). cell T d z t) e ∙ zd t b
       symbol i h l t b (no n) = s .stepped .symbol-gone i h (omega arith) t b
 
-  -- (e): it is not 0 in column q, and is made 1 there
+  -- it is not 0 in column q, and is made 1 there
   module _ {q x : ℕ} {a₁ d₁ : List ℕ} (hq : q < L) (nz : cell L a m q ≢ 0) (ex : x ≡ inverse (cell L a m q)) (sa : RowTimes L m x a a₁) (sd : RowTimes T m x d d₁) where
     undoes : times x (cell L a m q) ≡ 1
     undoes = ap (λ (z : ℕ). times z (cell L a m q)) ex ∙ inverse-times (cell L a m q) (pos-of-ne-zero nz) (s .stepped .row-bytes _)

@@ -8,14 +8,13 @@ use native.Mathlib.Decide.{ℕ-discrete, decLt, decLe}
 use Rattle.linear.specs.Field.{Field}
 use Rattle.linear.specs.Index.{update, Col, cut}
 use Rattle.linear.specs.Span.{SameSpan}
-use Rattle.linear.specs.System.{System, Symbols, equation, Solved, Open, Shortfall, Answer, contradicted, settled, left-open}
+use Rattle.linear.specs.System.{System, equation, Shortfall, Answer, contradicted, settled, left-open}
 use Rattle.linear.specs.RowOps.{Added, Scaled, Swapped}
 use Rattle.linear.specs.Reduced.{Reduced, Partly}
 use Rattle.linear.proofs.Field.{zero-or-not, zero-of-not-not}
 use Rattle.linear.proofs.Index.{update-same, update-other, find}
 use Rattle.linear.proofs.RowOps.{same-span-refl, same-span-trans, added-same, scaled-same, swapped-same, added-both, scaled-both, swapped-both}
 use Rattle.linear.proofs.Reduced.{solution, rank-le, shortfall, contradiction, solved, two-fit}
-use Rattle.linear.proofs.Answers.{solved-not-contradiction, open-not-contradiction, solved-not-open, shortfall-once}
 use Rattle.linear.proofs.Partly.{partly-none, partly-reduced, partly-swap, partly-scale, partly-take}
 
 module _ (K : Field) where
@@ -221,20 +220,3 @@ module _ (K : Field) where
                   let e : r ≡ L = omega arith in
                   let z : L - r ≡ 0 = omega arith in
                   settled (solution K L T R r (s .reduced)) (solved K L T S R r (s .reduced) (s .same .to) (s .same .back) clean e) (subst (Shortfall K L T S) z short)
-
-  -- The shortfall tells a system that is solved from one that is open.
-  pub solved-lacks-nothing : (L T : ℕ) → 0 < T → {S : System F} {C : Symbols F} → Solved K L T S C → Shortfall K L T S 0
-  solved-lacks-nothing L T pos {S} {C} a = go (answer L T pos S)
-    where
-      go : Answer K L T S → Shortfall K L T S 0
-      go (contradicted c) = absurd (solved-not-contradiction K L T a c)
-      go (settled D b s) = s
-      go (left-open s o l h) = absurd (solved-not-open K L T a o)
-
-  pub open-lacks : (L T : ℕ) → 0 < T → {S : System F} {s : ℕ} → Open K L T S → Shortfall K L T S s → 0 < s
-  open-lacks L T pos {S} {s} o l = go (answer L T pos S)
-    where
-      go : Answer K L T S → 0 < s
-      go (contradicted c) = absurd (open-not-contradiction K L T o c)
-      go (settled D b z) = absurd (solved-not-open K L T b o)
-      go (left-open u q m h) = let e : s ≡ u = shortfall-once K L T l m in omega arith

@@ -30,9 +30,6 @@ module _ (K : Field) where
   pub add-mul : (a b c : F) → (a ⊕ b) ⊗ c ≡ a ⊗ c ⊕ b ⊗ c
   add-mul a b c = rw (mul-comm (a ⊕ b) c, mul-add, mul-comm c a, mul-comm c b)
 
-  pub mul-left-comm : (a b c : F) → a ⊗ (b ⊗ c) ≡ b ⊗ (a ⊗ c)
-  mul-left-comm a b c = sym (mul-assoc a b c) ∙ ap (λ (x : F). x ⊗ c) (mul-comm a b) ∙ mul-assoc b a c
-
   -- equal sums: the two differ by nothing
   pub eq-of-add : (a b : F) → a ⊕ b ≡ 𝟘 → a ≡ b
   eq-of-add a b p = sym (add-zero a) ∙ ap (λ (x : F). a ⊕ x) (sym p) ∙ add-cancel a b

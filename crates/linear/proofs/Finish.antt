@@ -1,48 +1,40 @@
 -- What the elimination says of the system that it began with: a contradiction as soon as a row of zeros has a symbol that is not 0, and at the
 -- end solved, with the set, or open, with the shortfall.
 -- Assumes nothing.
-use mathlib.Core.Path.{_≡_, refl, sym, ap, _∙_}
+use mathlib.Core.Path.{_≡_, sym, ap, _∙_}
 use mathlib.Core.Logic.{_≢_}
 use mathlib.Core.List.{List}
-use Prim.Native.Nat.{ℕ, zero, suc, _+_, _-_, _*_, _≤_, _<_}
+use Prim.Native.Nat.{ℕ, _+_, _-_, _*_, _≤_, _<_}
 use native.Mathlib.Omega.{arith}
 use native.Mathlib.Decide.{ℕ-discrete, decLt}
 use lib.ListN.{length, take, getD, List·getD-eq-default}
 use lib.Seq.{getD-take, length-take-le, ext-getD}
 use Rattle.field.specs.Runs.{Written}
 use Rattle.linear.specs.Field.{Field}
-use Rattle.linear.specs.Index.{cons}
 use Rattle.linear.specs.Total.{delta}
-use Rattle.linear.specs.System.{System, Symbols, Fits}
+use Rattle.linear.specs.System.{System}
 use Rattle.linear.specs.Reduced.{Reduced}
 use Rattle.linear.specs.Octets.{octets, Octet, oct}
 use Rattle.linear.specs.Bytes.{Bytes, cell, Block, stored, OctetSymbols, inOctets, symbols, SolvedBytes, ContradictionBytes, OpenBytes, ShortfallBytes}
 use Rattle.linear.specs.Rows.{RowCopied, OnlyBelow}
 use Rattle.linear.specs.Elimination.{Holds, Stepped, Sifted, Held, Columns, Gathered}
-use Rattle.linear.proofs.Field.{zero-mul}
-use Rattle.linear.proofs.Total.{total-vanish, delta-self, delta-other}
-use Rattle.linear.proofs.Kernel.{pigeon}
-use Rattle.linear.proofs.System.{fits-follows}
+use Rattle.linear.proofs.Total.{delta-self, delta-other}
+use Rattle.linear.proofs.Kernel.{pigeon, pigeon-more}
+use Rattle.linear.proofs.System.{contradiction-follows, clash as row-clash}
 use Rattle.linear.proofs.Reduced.{shortfall, solved-by, two-fit}
 use Rattle.linear.proofs.Octets.{oct-zero, oct-one, oct-once}
 use Rattle.linear.proofs.Bytes.{cell-lt, contradiction-bytes, solved-bytes, open-bytes}
 use Rattle.linear.proofs.AnswersBytes.{solved-bytes-once}
 use Rattle.linear.proofs.Rows.{row-other, only-row, only-past}
-open Field octets using (_⊗_, 𝟘)
+open Field octets using (𝟘)
 
-infixl 70 _⊗_
--- ---- (d): a row of zeros whose symbol is not 0, whatever rows are yet to be taken
+-- ---- a row of zeros whose symbol is not 0, whatever rows are yet to be taken
 
 pub clash : {M L T : ℕ} {S : System ℕ} {a d : List ℕ} (m t : ℕ) → Holds M L T S a d → Bytes d → m < M → t < T
     → ((c : ℕ) → c < L → cell L a m c ≡ 0) → cell T d m t ≢ 0 → ContradictionBytes L T S
-clash {M} {L} {T} {S} {a} {d} m t h bd hm ht z nz =
-    contradiction-bytes L T S (record { none = λ C f. nz (zero-byte C (fits-follows octets L T (h .to) f)) })
-  where
-    zero-byte : (C : Symbols Octet) → Fits octets L T (inOctets (stored M L T a d)) C → cell T d m t ≡ 0
-    zero-byte C f = oct-once _ _ (bd _) (omega arith)
-        (sym (f .meets m hm t ht)
-        ∙ total-vanish octets L (λ c l. ap (λ (y : Octet). y ⊗ C c t) (ap oct (z c l) ∙ oct-zero) ∙ zero-mul octets (C c t))
-        ∙ sym oct-zero)
+clash {M} {L} {T} {S} {a} {d} m t h bd hm ht z nz = contradiction-bytes L T S
+    (contradiction-follows octets L T (h .to)
+    (row-clash octets L T m t hm ht (λ c l. ap oct (z c l) ∙ oct-zero) (λ e. nz (oct-once _ _ (bd _) (omega arith) (e ∙ sym oct-zero)))))
 
 -- the same, of the place x of the store
 pub clash-at : {M L T : ℕ} {S : System ℕ} {a d : List ℕ} (m x : ℕ) → Holds M L T S a d → Bytes d → m < M → m * T ≤ x → x < m * T + T
@@ -71,19 +63,11 @@ rank-at-most {L} {r = r} {pivot = pivot} s = let c = stepped-columns s in pigeon
 
 -- a row that is 0 at every pivot and not 0 in column q leaves room for one more pivot
 pub room : {L T m r : ℕ} {pivot : ℕ → ℕ} {a d : List ℕ} (q : ℕ) → Sifted L T m r r pivot a d → q < L → cell L a m q ≢ 0 → r < L
-room {L} {T} {m} {r} {pivot} {a} q s hq nz = let h : suc r ≤ L = pigeon octets (suc r) L (cons q pivot) below once in omega arith
-  where
-    below : (k : ℕ) → k < suc r → cons q pivot k < L
-    below zero h = hq
-    below (suc k) h = s .stepped .column k (omega arith)
+room {L} {T} {m} {r} {pivot} {a} q s hq nz =
+    let c = stepped-columns (s .stepped) in
+    pigeon-more octets r L q pivot (c .below) (c .once) hq (λ k h e. nz (ap (cell L a m) (sym e) ∙ s .gone k (omega arith) h))
 
-    once : (i k : ℕ) → i < suc r → k < suc r → cons q pivot i ≡ cons q pivot k → i ≡ k
-    once zero zero hi hk e = refl
-    once zero (suc k) hi hk e = absurd (nz (ap (cell L a m) e ∙ s .gone k (omega arith) (omega arith)))
-    once (suc i) zero hi hk e = absurd (nz (ap (cell L a m) (sym e) ∙ s .gone i (omega arith) (omega arith)))
-    once (suc i) (suc k) hi hk e = ap suc (stepped-columns (s .stepped) .once i k (omega arith) (omega arith) e)
-
--- ---- (f): all M rows are taken, and fully reduced
+-- ---- all M rows are taken, and fully reduced
 
 module _ {M L T r : ℕ} {pivot : ℕ → ℕ} {a d : List ℕ} (held : Held L T M r pivot a d) where
   abbrev end : System Octet

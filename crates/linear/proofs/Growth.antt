@@ -1,39 +1,23 @@
 -- Demand 3's growth rule, in octets: a second system that has every equation of the first, in any order, and perhaps more; the same equations
--- in another order; and one equation more (E9).
+-- in another order; and by how much n equations more can lower the shortfall.
 -- Assumes nothing.
-use mathlib.Core.Path.{_≡_, refl, sym, ap, _∙_}
-use mathlib.Core.Logic.{_≢_, _⊎_, inl, inr}
+use mathlib.Core.Path.{_≡_, sym, ap, _∙_}
+use mathlib.Core.Logic.{_⊎_, inl, inr}
 use mathlib.Core.List.{List}
-use Prim.Native.Nat.{ℕ, suc, _+_, _-_, _≤_, _<_}
+use Prim.Native.Nat.{ℕ, _+_, _-_, _≤_, _<_}
 use native.Mathlib.Omega.{arith}
 use native.Mathlib.Decide.{decLt}
 use Rattle.field.specs.Octet.{times}
 use Rattle.field.specs.Sum.{sum}
 use Rattle.field.proofs.Sums.{sum-same}
 use Rattle.linear.specs.Index.{Col, cut}
-use Rattle.linear.specs.Span.{InSpan}
-use Rattle.linear.specs.Independent.{OneMore}
 use Rattle.linear.specs.System.{System, SameEquation, Included}
 use Rattle.linear.specs.Octets.{octets, oct}
-use Rattle.linear.specs.Bytes.{OctetSymbols, inOctets, cell, FitsBytes, SolvedBytes, ContradictionBytes, OpenBytes, ShortfallBytes, AnswerBytes, contradicted-bytes, settled-bytes, left-open-bytes, OneMoreBytes}
+use Rattle.linear.specs.Bytes.{inOctets, cell, FitsBytes, SolvedBytes, ContradictionBytes, OpenBytes, ShortfallBytes}
 use Rattle.linear.proofs.Independent.{most-more}
-use Rattle.linear.proofs.Answers.{shortfall-never-grows, shortfall-same, one-more, row-decides}
-use Rattle.linear.proofs.AnswersBytes.{answer-bytes}
+use Rattle.linear.proofs.Shortfall.{shortfall-never-grows, shortfall-same}
 
 -- ---- equations of one system among those of another
-
-pub included-refl : (L T : ℕ) (S : System ℕ) → Included L T S S
-included-refl L T S i h = (i, h, record { coefs = λ c l. refl; bytes = λ t l. refl })
-
-pub included-trans : {L T : ℕ} {S R Q : System ℕ} → Included L T S R → Included L T R Q → Included L T S Q
-included-trans {L} {T} {S} {R} {Q} f g i h = go (f i h)
-  where
-    further : (k : ℕ) → SameEquation L T S i R k → (n : ℕ) × (n < Q .count) × SameEquation L T R k Q n
-        → (n : ℕ) × (n < Q .count) × SameEquation L T S i Q n
-    further k e (n, b, u) = (n, b, record { coefs = λ c q. e .coefs c q ∙ u .coefs c q; bytes = λ t q. e .bytes t q ∙ u .bytes t q })
-
-    go : (k : ℕ) × (k < R .count) × SameEquation L T S i R k → (n : ℕ) × (n < Q .count) × SameEquation L T S i Q n
-    go (k, l, e) = further k e (g k l)
 
 -- Constraints first, and then arrivals: the Z constraints are the same, and each arrival is among the second's.
 pub included-arrivals : (L T Z n m : ℕ) (S R : System ℕ) → S .count ≡ Z + n → R .count ≡ Z + m
@@ -48,16 +32,6 @@ included-arrivals L T Z n m S R en em fixed among i h = go (decLt i Z)
     go : Dec (i < Z) → (k : ℕ) × (k < R .count) × SameEquation L T S i R k
     go (yes l) = (i, omega arith, fixed i l)
     go (no l) = shift (i - Z) (omega arith) (among (i - Z) (omega arith))
-
--- and a set fits that meets the constraints and yields every symbol that arrived
-pub fits-arrivals : {L T Z n : ℕ} {S : System ℕ} {C : List ℕ} → S .count ≡ Z + n
-    → ((i : ℕ) → i < Z → (t : ℕ) → t < T → sum L (λ c. times (S .coef i c) (cell T C c t)) ≡ S .byte i t)
-    → ((j : ℕ) → j < n → (t : ℕ) → t < T → sum L (λ c. times (S .coef (Z + j) c) (cell T C c t)) ≡ S .byte (Z + j) t) → FitsBytes L T S C
-fits-arrivals {L} {T} {Z} {n} {S} {C} e constraints arrivals = record { meets = λ i l t q. go i l t q (decLt i Z) }
-  where
-    go : (i : ℕ) → i < S .count → (t : ℕ) → t < T → Dec (i < Z) → sum L (λ c. times (S .coef i c) (cell T C c t)) ≡ S .byte i t
-    go i l t q (yes h) = constraints i h t q
-    go i l t q (no h) = let z : Z + (i - Z) ≡ i = omega arith in rw z at (arrivals (i - Z) (omega arith) t q)
 
 pub included-octets : {L T : ℕ} {S R : System ℕ} → Included L T S R → Included L T (inOctets S) (inOctets R)
 included-octets inc i h =
@@ -86,15 +60,6 @@ module _ {L T : ℕ} {S R : System ℕ} (inc : Included L T S R) where
   solved-never-opens x o =
       o .differ (x .only (o .first) (o .first-block) (fits-bytes-fewer (o .first-fits)) ∙ sym (x .only (o .second) (o .second-block) (fits-bytes-fewer (o .second-fits))))
 
-  -- so it stays solved with the same bytes, or becomes a contradiction
-  pub solved-stays : {C : List ℕ} → 0 < T → OctetSymbols T R → SolvedBytes L T S C → SolvedBytes L T R C ⊎ ContradictionBytes L T R
-  solved-stays {C} pos small x = go (answer-bytes pos small)
-    where
-      go : AnswerBytes L T R → SolvedBytes L T R C ⊎ ContradictionBytes L T R
-      go (contradicted-bytes c) = inr c
-      go (settled-bytes D y z) = inl (rw (solved-same-bytes x y) at y)
-      go (left-open-bytes s o z p) = absurd (solved-never-opens x o)
-
   -- the shortfall doesn't grow
   pub shortfall-shrinks : {s t : ℕ} → ShortfallBytes L T S s → ShortfallBytes L T R t → t ≤ s
   shortfall-shrinks x y = shortfall-never-grows octets L T (included-octets inc) (x .lacks) (y .lacks)
@@ -122,45 +87,6 @@ module _ {L T : ℕ} {S R : System ℕ} (to : Included L T S R) (back : Included
   pub same-shortfall : {s : ℕ} → ShortfallBytes L T S s → ShortfallBytes L T R s
   same-shortfall x = record { lacks = shortfall-same octets L T (included-octets to) (included-octets back) (x .lacks) }
 
--- ---- one equation more
-
-module _ {L : ℕ} {S : System ℕ} where
-  -- the new row as that of another system
-  one-more-octets : {R : System ℕ} {q : ℕ} (v : ℕ → ℕ) → ((c : ℕ) → c < L → v c ≡ R .coef q c) → OneMoreBytes L S R q
-      → OneMore octets L (S .count) (R .count) (inOctets S .coef) (inOctets R .coef) (λ c. oct (v c))
-  one-more-octets {R} {q} v same o = record {
-    all = λ i h. ((o .all i h) .0, (o .all i h) .1, λ c. ap oct ((o .all i h) .2 (c .0) (c .1)));
-    new = q;
-    new-below = o .below;
-    new-is = λ c. ap oct (same (c .0) (c .1));
-    only = λ i h. go i (o .only i h);
-  }
-    where
-      go : (i : ℕ)
-          → ((k : ℕ) × (k < S .count) × ((c : ℕ) → c < L → R .coef i c ≡ S .coef k c)) ⊎ ((c : ℕ) → c < L → R .coef i c ≡ R .coef q c)
-          → ((k : ℕ) × (k < S .count) × ((c : Col L) → cut L (inOctets R .coef) i c ≡ cut L (inOctets S .coef) k c)) ⊎ ((c : Col L) → cut L (inOctets R .coef) i c ≡ oct (v (c .0)))
-      go i (inl (k, l, e)) = inl (k, l, λ c. ap oct (e (c .0) (c .1)))
-      go i (inr e) = inr (λ c. ap oct (e (c .0) (c .1) ∙ sym (same (c .0) (c .1))))
-
-  -- lowers the shortfall by one or leaves it
-  pub one-more-falls : {T : ℕ} {R : System ℕ} {q s t : ℕ} → OneMoreBytes L S R q → ShortfallBytes L T S s → ShortfallBytes L T R t
-      → (t ≡ s) ⊎ (suc t ≡ s)
-  one-more-falls {T} {R} {q} {s} {t} o x y = go (one-more octets L T (λ c. oct (R .coef q c)) (one-more-octets (R .coef q) (λ c l. refl) o) (x .lacks) (y .lacks))
-    where
-      In : Type 0
-      In = InSpan octets (S .count) (cut L (inOctets S .coef)) (λ c. oct (R .coef q (c .0)))
-
-      go : (In × (t ≡ s)) ⊎ ((¬ In) × (suc t ≡ s)) → (t ≡ s) ⊎ (suc t ≡ s)
-      go (inl (i, r)) = inl r
-      go (inr (n, r)) = inr r
-
-  -- and its row alone decides which: with the same row and any symbol the shortfall is the same
-  pub row-decides-bytes : {T : ℕ} {R Q : System ℕ} {q p s t u : ℕ} → OneMoreBytes L S R q → OneMoreBytes L S Q p
-      → ((c : ℕ) → c < L → R .coef q c ≡ Q .coef p c)
-      → ShortfallBytes L T S s → ShortfallBytes L T R t → ShortfallBytes L T Q u → t ≡ u
-  row-decides-bytes {T} {R} {Q} {q} o o′ same x y z =
-      row-decides octets L T (λ c. oct (R .coef q c)) (one-more-octets (R .coef q) (λ c l. refl) o) (one-more-octets (R .coef q) same o′) (x .lacks) (y .lacks) (z .lacks)
-
 -- ---- n equations more
 
 -- The rows of R are rows of S, and n others: the shortfall falls by n at most. So an open answer is not followed by solved after fewer
@@ -178,11 +104,3 @@ shortfall-floor {L} {T} {S} {R} {s} {t} n new only x y =
         ⊎ ((k : ℕ) × (k < n) × ((c : Col L) → cut L (inOctets R .coef) i c ≡ cut L (λ j. inOctets R .coef (new j)) k c))
     which i (inl (k, l, e)) = inl (k, l, λ c. ap oct (e (c .0) (c .1)))
     which i (inr (k, l, e)) = inr (k, l, λ c. ap (λ (z : ℕ). oct (R .coef z (c .0))) e)
-
--- one row with two symbols that differ
-pub twice-unequal : {L T : ℕ} {S : System ℕ} (i k t : ℕ) → i < S .count → k < S .count → t < T
-    → ((c : ℕ) → c < L → S .coef i c ≡ S .coef k c)
-    → S .byte i t ≢ S .byte k t → ContradictionBytes L T S
-twice-unequal {L} {T} {S} i k t hi hk ht same differ = record {
-  none = λ C b f. differ (sym (f .meets i hi t ht) ∙ sum-same L (λ c h. ap (λ (x : ℕ). times x (cell T C c t)) (same c h)) ∙ f .meets k hk t ht);
-}

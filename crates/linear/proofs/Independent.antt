@@ -9,7 +9,7 @@ use Rattle.linear.specs.Field.{Field}
 use Rattle.linear.specs.Index.{cons, ahead, Col, cut}
 use Rattle.linear.specs.Total.{total, delta}
 use Rattle.linear.specs.Span.{lin, InSpan, Within}
-use Rattle.linear.specs.Independent.{Independent, Dependent, Choice, MostIndependent, Basis, RowsOf, OneMore}
+use Rattle.linear.specs.Independent.{Independent, Dependent, Choice, MostIndependent, Basis, RowsOf}
 use Rattle.linear.proofs.Field.{add-zero, zero-mul, add-mul, eq-of-add}
 use Rattle.linear.proofs.Index.{ahead-first, ahead-then}
 use Rattle.linear.proofs.Total.{total-ext, total-add, total-mul, delta-self, delta-other, total-delta}
@@ -175,52 +175,6 @@ module _ (K : Field) where
       let p : r ≤ s = most-grows L M N r s A B f a b in
       let q : s ≤ r = most-grows L N M s r B A g b a in
       omega arith
-
-  -- One more row raises the number by one or leaves it, and which of the two turns on the rows alone.
-  pub most-step : (L M N r s : ℕ) (A B : ℕ → ℕ → F) (v : ℕ → F) → OneMore K L M N A B v → MostIndependent K M (cut L A) r
-      → MostIndependent K N (cut L B) s
-      → (InSpan K M (cut L A) (λ c. v (c .0)) × (s ≡ r)) ⊎ ((¬ InSpan K M (cut L A) (λ c. v (c .0))) × (s ≡ suc r))
-  most-step L M N r s A B v one a b = go (basis L M A)
-    where
-      go : (t : ℕ) × Basis K M t (cut L A)
-          → (InSpan K M (cut L A) (λ c. v (c .0)) × (s ≡ r)) ⊎ ((¬ InSpan K M (cut L A) (λ c. v (c .0))) × (s ≡ suc r))
-      go (t, base) = branch (grow L t (cons v chosen) (base .choice .free))
-        where
-          chosen : ℕ → ℕ → F
-          chosen k = A (base .choice .place k)
-
-          same : t ≡ r
-          same = most-unique (most-of-basis base) a
-
-          chosen-up : Within K t (cut L chosen) N (cut L B)
-          chosen-up k h = rows-within (one .all) (base .choice .place k) (base .choice .below k h)
-
-          v-up : InSpan K N (cut L B) (λ c. v (c .0))
-          v-up = span-eq K (one .new-is) (span-member K N (cut L B) (one .new) (one .new-below))
-
-          up : Within K (suc t) (cut L (cons v chosen)) N (cut L B)
-          up zero h = v-up
-          up (suc k) h = chosen-up k (omega arith)
-
-          down : {m : ℕ} {u : ℕ → Col L → F} → InSpan K m u (λ c. v (c .0)) → Within K t (cut L chosen) m u → Within K N (cut L B) m u
-          down {m} {u} iv ic i h = pick (one .only i h)
-            where
-              pick : ((k : ℕ) × (k < M) × ((c : Col L) → cut L B i c ≡ cut L A k c)) ⊎ ((c : Col L) → cut L B i c ≡ v (c .0))
-                  → InSpan K m u (cut L B i)
-              pick (inl (k, l, e)) = span-eq K e (span-trans K (base .spans k l) ic)
-              pick (inr e) = span-eq K e iv
-
-          branch : InSpan K t (cut L chosen) (λ c. v (c .0)) ⊎ Independent K (suc t) (cut L (cons v chosen))
-              → (InSpan K M (cut L A) (λ c. v (c .0)) × (s ≡ r)) ⊎ ((¬ InSpan K M (cut L A) (λ c. v (c .0))) × (s ≡ suc r))
-          branch (inl iv) = inl (span-trans K iv (λ k h. span-member K M (cut L A) (base .choice .place k) (base .choice .below k h)), most-unique b (most-of-span L N t B (cut L chosen) (base .choice .free) chosen-up (down iv (λ k h. span-member K t (cut L chosen) k h))) ∙ same)
-          branch (inr ind) = inr (no-span, most-unique b (most-of-span L N (suc t) B (cut L (cons v chosen)) ind up (down (span-member K (suc t) (cut L (cons v chosen)) zero (omega arith)) (λ k h. span-member K (suc t) (cut L (cons v chosen)) (suc k) (omega arith)))) ∙ ap suc same)
-            where
-              no-span : ¬ InSpan K M (cut L A) (λ c. v (c .0))
-              no-span iv = absurd (let h : suc t ≤ t = steinitz K (suc t) t (cut L (cons v chosen)) (cut L chosen) ind all-in in omega arith)
-                where
-                  all-in : Within K (suc t) (cut L (cons v chosen)) t (cut L chosen)
-                  all-in zero h = span-trans K iv (base .spans)
-                  all-in (suc k) h = span-member K t (cut L chosen) k (omega arith)
 
   -- n rows more raise the number by n at most
   pub most-more : (L M N n r s : ℕ) (A B v : ℕ → ℕ → F)

@@ -1,18 +1,17 @@
 -- The one fact that all dimension counting rests on: n vectors of L columns are dependent, or they are independent and n ≤ L.
 -- Assumes nothing.
-use mathlib.Core.Path.{_≡_, sym, ap, _∙_}
+use mathlib.Core.Path.{_≡_, refl, sym, ap, _∙_}
 use mathlib.Core.Logic.{_≢_, _⊎_, inl, inr}
 use Prim.Native.Nat.{ℕ, zero, suc, _≤_, _<_}
 use native.Mathlib.Omega.{arith}
-use native.Mathlib.Decide.{ℕ-discrete}
 use Rattle.linear.specs.Field.{Field}
-use Rattle.linear.specs.Index.{put, skip, Col, cut}
+use Rattle.linear.specs.Index.{cons, put, skip, Col, cut}
 use Rattle.linear.specs.Total.{total, delta}
 use Rattle.linear.specs.Span.{lin, Within}
 use Rattle.linear.specs.Independent.{Independent, Dependent}
 use Rattle.linear.proofs.Field.{mul-zero, zero-mul, eq-of-add, mul-inv-cancel, mul-cancel-inv, zero-or-not, zero-of-not-not}
 use Rattle.linear.proofs.Index.{put-at, put-skip, skip-lt, skip-cases, find}
-use Rattle.linear.proofs.Total.{total-ext, total-vanish, total-add, total-mul-right, total-skip, delta-self, delta-other, total-delta}
+use Rattle.linear.proofs.Total.{total-ext, total-vanish, total-add, total-mul-right, total-skip, delta-sym, delta-apart, total-delta}
 use Rattle.linear.proofs.Span.{lin-lin, coefs}
 
 module _ (K : Field) where
@@ -139,10 +138,24 @@ module _ (K : Field) where
   pub pigeon : (n L : ℕ) (q : ℕ → ℕ) → ((k : ℕ) → k < n → q k < L) → ((i k : ℕ) → i < n → k < n → q i ≡ q k → i ≡ k) → n ≤ L
   pigeon n L q below once = go (kernel L n (λ i c. delta K c (q i)))
     where
-      same : (i k : ℕ) → i < n → k < n → Dec (i ≡ k) → delta K (q k) (q i) ≡ delta K i k
-      same i k hi hk (yes e) = ap (λ (x : ℕ). delta K (q k) (q x)) e ∙ delta-self K (q k) ∙ sym (ap (λ (x : ℕ). delta K x k) e ∙ delta-self K k)
-      same i k hi hk (no h) = delta-other K (q k) (q i) (λ e. h (once i k hi hk (sym e))) ∙ sym (delta-other K i k h)
+      same : (i k : ℕ) → i < n → k < n → delta K (q k) (q i) ≡ delta K i k
+      same i k hi hk = delta-apart K q k i (once k i hk hi) ∙ delta-sym K k i
 
       go : Kernel L n (λ i c. delta K c (q i)) → n ≤ L
       go (inr t) = t .1
-      go (inl d) = absurd (d .other (sym (total-ext K n (λ i l. ap (λ (x : F). d .coef i ⊗ x) (same i (d .place) l (d .below) (ℕ-discrete i (d .place)))) ∙ total-delta K n (d .place) (d .coef) (d .below)) ∙ d .vanishes (q (d .place), below (d .place) (d .below))))
+      go (inl d) = absurd (d .other (sym (total-ext K n (λ i l. ap (λ (x : F). d .coef i ⊗ x) (same i (d .place) l (d .below))) ∙ total-delta K n (d .place) (d .coef) (d .below)) ∙ d .vanishes (q (d .place), below (d .place) (d .below))))
+
+  -- and fewer, if there is another one
+  pub pigeon-more : (n L c : ℕ) (q : ℕ → ℕ) → ((k : ℕ) → k < n → q k < L) → ((i k : ℕ) → i < n → k < n → q i ≡ q k → i ≡ k)
+      → c < L → ((k : ℕ) → k < n → q k ≢ c) → n < L
+  pigeon-more n L c q below once l other = pigeon (suc n) L (cons c q) below′ once′
+    where
+      below′ : (k : ℕ) → k < suc n → cons c q k < L
+      below′ zero h = l
+      below′ (suc k) h = below k (omega arith)
+
+      once′ : (i k : ℕ) → i < suc n → k < suc n → cons c q i ≡ cons c q k → i ≡ k
+      once′ zero zero hi hk e = refl
+      once′ zero (suc k) hi hk e = absurd (other k (omega arith) (sym e))
+      once′ (suc i) zero hi hk e = absurd (other i (omega arith) e)
+      once′ (suc i) (suc k) hi hk e = ap suc (once i k (omega arith) (omega arith) e)

@@ -1,4 +1,4 @@
--- The theorems. A crate above names these as `Rattle.linear.proofs.Answers`.
+-- The theorems. A crate above names these as `Rattle.linear.proofs.Growth`.
 pub mod Field
 pub mod Index
 pub mod Total
@@ -8,7 +8,7 @@ pub mod Independent
 pub mod System
 pub mod RowOps
 pub mod Reduced
-pub mod Answers
+pub mod Shortfall
 pub mod Partly
 pub mod Existence
 pub mod Octets

@@ -1,13 +1,13 @@
 -- What a reduced form says of every system with the same consequences: which of the three answers it has, the set that solves it, and the
 -- most independent rows. However an elimination goes about it, it ends here.
 -- Assumes nothing.
-use mathlib.Core.Path.{_≡_, refl, sym, ap, ap₂, _∙_}
+use mathlib.Core.Path.{_≡_, sym, ap, ap₂, _∙_}
 use mathlib.Core.Logic.{_≢_, _⊎_, inl, inr}
-use Prim.Native.Nat.{ℕ, zero, suc, _-_, _≤_, _<_}
+use Prim.Native.Nat.{ℕ, zero, _-_, _≤_, _<_}
 use native.Mathlib.Omega.{arith}
 use native.Mathlib.Decide.{ℕ-discrete, decLt}
 use Rattle.linear.specs.Field.{Field}
-use Rattle.linear.specs.Index.{cons, Col, cut}
+use Rattle.linear.specs.Index.{Col, cut}
 use Rattle.linear.specs.Total.{total, delta}
 use Rattle.linear.specs.Span.{InSpan, Within}
 use Rattle.linear.specs.Independent.{Independent, MostIndependent}
@@ -15,11 +15,11 @@ use Rattle.linear.specs.System.{System, Symbols, Same, equation, Fits, F
 use Rattle.linear.specs.Reduced.{Reduced}
 use Rattle.linear.proofs.Field.{add-zero, zero-mul, zero-of-fixed}
 use Rattle.linear.proofs.Index.{find, choose}
-use Rattle.linear.proofs.Total.{total-ext, total-vanish, total-add, delta-self, delta-other, delta-sym, total-delta}
+use Rattle.linear.proofs.Total.{total-ext, total-vanish, total-add, delta-self, delta-other, delta-sym, delta-apart, total-delta}
 use Rattle.linear.proofs.Span.{lin-lin, span-member, span-zero, span-trans, span-pull}
-use Rattle.linear.proofs.Kernel.{pigeon}
+use Rattle.linear.proofs.Kernel.{pigeon, pigeon-more}
 use Rattle.linear.proofs.Independent.{rank, most-of-span}
-use Rattle.linear.proofs.System.{fits-follows, solved-same}
+use Rattle.linear.proofs.System.{fits-follows, contradiction-follows, clash, solved-same}
 
 module _ (K : Field) where
   open Field K using (carrier as F, _⊕_, _⊗_, 𝟘, 𝟙, add-self, mul-comm, mul-add, one-ne-zero)
@@ -28,12 +28,6 @@ module _ (K : Field) where
   infixl 70 _⊗_
   module _ (L T : ℕ) (R : System F) (r : ℕ) (red : Reduced K L (R .count) (R .coef) r) where
     open Reduced red using (pivot, pivot-below, unit, rest)
-
-    -- a row that is 0 and whose symbol is not
-    pub clash : (i : ℕ) → r ≤ i → i < R .count → (t : ℕ) → t < T → R .byte i t ≢ 𝟘 → Contradiction K L T R
-    clash i h l t q nz = record {
-      none = λ C f. nz (sym (f .meets i l t q) ∙ total-vanish K L (λ c b. ap (λ (x : F). x ⊗ C c t) (rest i h l c b) ∙ zero-mul K (C c t)));
-    }
 
     -- the entries d k at the pivots, and 0 in the other columns
     spread-out : (ℕ → F) → ℕ → F
@@ -94,17 +88,7 @@ module _ (K : Field) where
 
     -- a free column leaves room for one more pivot
     free-lt : (c : ℕ) → c < L → Free c → r < L
-    free-lt c l f = pigeon K (suc r) L (cons c pivot) below once
-      where
-        below : (k : ℕ) → k < suc r → cons c pivot k < L
-        below zero h = l
-        below (suc k) h = pivot-below k (omega arith)
-
-        once : (i k : ℕ) → i < suc r → k < suc r → cons c pivot i ≡ cons c pivot k → i ≡ k
-        once zero zero hi hk e = refl
-        once zero (suc k) hi hk e = absurd (f k (omega arith) (sym e))
-        once (suc i) zero hi hk e = absurd (f i (omega arith) e)
-        once (suc i) (suc k) hi hk e = ap suc (pivot-once i k (omega arith) (omega arith) e)
+    free-lt c l f = pigeon-more K r L c pivot pivot-below pivot-once l f
 
     all-le : ((c : ℕ) → c < L → (k : ℕ) × (k < r) × (pivot k ≡ c)) → L ≤ r
     all-le all = go (choose {Q = λ c k. (k < r) × (pivot k ≡ c)} L zero (λ c l. ((all c l) .0, ((all c l) .1, (all c l) .2))))
@@ -116,32 +100,25 @@ module _ (K : Field) where
     pub solution-pivot : (k : ℕ) → k < r → (t : ℕ) → solution (pivot k) t ≡ R .byte k t
     unfolding solution spread-out
     solution-pivot k h t =
-        total-ext K r (λ j l. ap (λ (x : F). x ⊗ R .byte j t) (same j l (ℕ-discrete j k)) ∙ mul-comm (delta K j k) (R .byte j t))
+        total-ext K r (λ j l. ap (λ (x : F). x ⊗ R .byte j t) (delta-apart K pivot k j (pivot-once k j h l) ∙ delta-sym K k j) ∙ mul-comm (delta K j k) (R .byte j t))
         ∙ total-delta K r k (λ j. R .byte j t) h
-      where
-        same : (j : ℕ) → j < r → Dec (j ≡ k) → delta K (pivot k) (pivot j) ≡ delta K j k
-        same j l (yes e) = ap (λ (x : ℕ). delta K (pivot k) (pivot x)) e ∙ delta-self K (pivot k) ∙ sym (ap (λ (x : ℕ). delta K x k) e ∙ delta-self K k)
-        same j l (no n) = delta-other K (pivot k) (pivot j) (λ e. n (sym (pivot-once k j h l e))) ∙ sym (delta-other K j k n)
 
     -- Where every column has a pivot, each row is 1 at its own and 0 elsewhere: a set that fits is what the symbols say.
     module _ (all : (c : ℕ) → c < L → (k : ℕ) × (k < r) × (pivot k ≡ c)) where
       unit-row : (k c : ℕ) → k < r → c < L → R .coef k c ≡ delta K c (pivot k)
       unit-row k c h l = go (all c l)
         where
-          same : (i : ℕ) → i < r → Dec (k ≡ i) → delta K k i ≡ delta K (pivot i) (pivot k)
-          same i hi (yes e) = ap (delta K k) (sym e) ∙ delta-self K k ∙ sym (ap (λ (x : ℕ). delta K (pivot x) (pivot k)) (sym e) ∙ delta-self K (pivot k))
-          same i hi (no n) = delta-other K k i n ∙ sym (delta-other K (pivot i) (pivot k) (λ e. n (sym (pivot-once i k hi h e))))
-
           go : (i : ℕ) × (i < r) × (pivot i ≡ c) → R .coef k c ≡ delta K c (pivot k)
-          go (i, hi, e) = ap (R .coef k) (sym e) ∙ unit k i h hi ∙ same i hi (ℕ-discrete k i) ∙ ap (λ (x : ℕ). delta K x (pivot k)) e
+          go (i, hi, e) =
+              ap (R .coef k) (sym e) ∙ unit k i h hi ∙ sym (delta-apart K pivot i k (pivot-once i k hi h) ∙ delta-sym K i k) ∙ ap (λ (x : ℕ). delta K x (pivot k)) e
 
       forced : (D : Symbols F) → Fits K L T R D → (k : ℕ) → k < r → (t : ℕ) → t < T → D (pivot k) t ≡ R .byte k t
       forced D f k h t q =
           sym (total-ext K L (λ c l. ap (λ (x : F). x ⊗ D c t) (unit-row k c h l) ∙ mul-comm (delta K c (pivot k)) (D c t)) ∙ total-delta K L (pivot k) (λ c. D c t) (pivot-below k h))
           ∙ f .meets k (let e : r ≤ R .count = red .enough in omega arith) t q
 
-      pub fits-same : (C D : Symbols F) → Fits K L T R C → Fits K L T R D → Same L T C D
-      fits-same C D f g = record { at = λ c l t q. go c t q (all c l) }
+      pub fits-once : (C D : Symbols F) → Fits K L T R C → Fits K L T R D → Same L T C D
+      fits-once C D f g = record { at = λ c l t q. go c t q (all c l) }
         where
           go : (c t : ℕ) → t < T → (k : ℕ) × (k < r) × (pivot k ≡ c) → C c t ≡ D c t
           go c t q (k, h, e) = ap (λ (x : ℕ). C x t) (sym e) ∙ forced C f k h t q ∙ sym (forced D g k h t q) ∙ ap (λ (x : ℕ). D x t) e
@@ -217,7 +194,7 @@ module _ (K : Field) where
     shortfall = record { rank = r; most = most-independent; less = (let h : r ≤ L = rank-le L T R r red in omega arith) }
 
     pub contradiction : (i : ℕ) → r ≤ i → i < R .count → (t : ℕ) → t < T → R .byte i t ≢ 𝟘 → Contradiction K L T S
-    contradiction i h l t q nz = record { none = λ C f. (clash L T R r red i h l t q nz) .none C (fits-follows K L T to f) }
+    contradiction i h l t q nz = contradiction-follows K L T to (clash K L T i t l q (red .rest i h l) nz)
 
     module _ (clean : (i : ℕ) → r ≤ i → i < R .count → (t : ℕ) → t < T → R .byte i t ≡ 𝟘) where
       fits : Fits K L T S (solution L T R r red)
@@ -230,7 +207,7 @@ module _ (K : Field) where
               → ((c : ℕ) × (c < L) × Free L T R r red c) ⊎ ((c : ℕ) → c < L → (k : ℕ) × (k < r) × (red .pivot k ≡ c))
               → Same L T D (solution L T R r red)
           go D f (inl (c, l, free)) = absurd (let h : r < L = free-lt L T R r red c l free in omega arith)
-          go D f (inr all) = fits-same L T R r red all D (solution L T R r red) (fits-follows K L T to f) (solution-fits L T R r red clean)
+          go D f (inr all) = fits-once L T R r red all D (solution L T R r red) (fits-follows K L T to f) (solution-fits L T R r red clean)
 
       -- a set that has each pivot's symbol in its column solves the system, if each column has a pivot
       pub solved-by : r ≡ L → (C : Symbols F) → ((k : ℕ) → k < r → (t : ℕ) → t < T → C (red .pivot k) t ≡ R .byte k t) → Solved K L T S C

@@ -67,14 +67,10 @@ row-added-none {w} {f} i k {xs} e =
 pub row-times-one : {w f : ℕ} (i : ℕ) {xs : List ℕ} → Bytes xs → f ≡ 1 → RowTimes w i f xs xs
 row-times-one {w} {f} i {xs} b e = row-same i (λ c h. sym (ap (λ (x : ℕ). times x (cell w xs i c)) e ∙ one-times (cell w xs i c) (b _)))
 
--- a sum of two rows, as a sum with the row times 1, and back
+-- a sum of two rows, as a sum with the row times 1
 pub row-added-once : {w : ℕ} (i k : ℕ) {xs ys : List ℕ} → Bytes xs → Written (λ c. plus (cell w xs i c) (cell w xs k c)) xs ys (i * w) w
     → RowAdded w i k 1 xs ys
 row-added-once {w} i k {xs} b s = written-as s (λ c h. ap (plus (cell w xs i c)) (sym (one-times (cell w xs k c) (b _))))
-
-pub row-once-added : {w : ℕ} (i k : ℕ) {xs ys : List ℕ} → Bytes xs → RowAdded w i k 1 xs ys
-    → Written (λ c. plus (cell w xs i c) (cell w xs k c)) xs ys (i * w) w
-row-once-added {w} i k {xs} b s = written-as s (λ c h. ap (plus (cell w xs i c)) (one-times (cell w xs k c) (b _)))
 
 -- added to a row that is 0, a row is copied
 pub copied-by-adding : {w : ℕ} (i k : ℕ) {xs ys : List ℕ} → ((c : ℕ) → c < w → cell w xs i c ≡ 0)

@@ -1,9 +1,10 @@
--- Sums over a field: equal terms, vanishing terms, sums of sums, factors, and the term at a place.
+-- Sums over a field: equal terms, vanishing terms, sums of sums, factors, the term at a place; and deltas.
 -- Assumes nothing.
 use mathlib.Core.Path.{_≡_, refl, sym, ap, ap₂, _∙_}
 use mathlib.Core.Logic.{_≢_}
 use Prim.Native.Nat.{ℕ, zero, suc, _<_}
 use native.Mathlib.Omega.{arith}
+use native.Mathlib.Decide.{ℕ-discrete}
 use Rattle.linear.specs.Field.{Field}
 use Rattle.linear.specs.Index.{skip}
 use Rattle.linear.specs.Total.{total, delta}
@@ -67,6 +68,14 @@ module _ (K : Field) where
   delta-sym zero (suc j) = refl
   delta-sym (suc i) zero = refl
   delta-sym (suc i) (suc j) = delta-sym i j
+
+  -- numbers that differ have the deltas of their places
+  pub delta-apart : (q : ℕ → ℕ) (i k : ℕ) → (q i ≡ q k → i ≡ k) → delta K (q i) (q k) ≡ delta K i k
+  delta-apart q i k once = go (ℕ-discrete i k)
+    where
+      go : Dec (i ≡ k) → delta K (q i) (q k) ≡ delta K i k
+      go (yes e) = ap (λ (x : ℕ). delta K (q x) (q k)) e ∙ delta-self (q k) ∙ sym (ap (λ (x : ℕ). delta K x k) e ∙ delta-self k)
+      go (no h) = delta-other (q i) (q k) (λ e. h (once e)) ∙ sym (delta-other i k h)
 
   pub total-delta : (n p : ℕ) (f : ℕ → F) → p < n → total K n (λ i. f i ⊗ delta K i p) ≡ f p
   unfolding total delta

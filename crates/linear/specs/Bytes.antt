@@ -2,7 +2,7 @@
 -- row, as a document writes it or as two stores hold it.
 -- Assumes nothing.
 use mathlib.Core.Path.{_≡_}
-use mathlib.Core.Logic.{_≢_, _⊎_}
+use mathlib.Core.Logic.{_≢_}
 use mathlib.Core.List.{List, [], _∷_}
 use Prim.Native.Nat.{ℕ, zero, suc, _+_, _*_, _/_, _%_, _<_}
 use lib.ListN.{length, getD}
@@ -83,10 +83,3 @@ module _ (L T : ℕ) (S : System ℕ) where
     contradicted-bytes : ContradictionBytes → AnswerBytes
     settled-bytes : (out : List ℕ) → SolvedBytes out → ShortfallBytes 0 → AnswerBytes
     left-open-bytes : (s : ℕ) → OpenBytes → ShortfallBytes s → 0 < s → AnswerBytes
-
--- The rows of R are the rows of S and row q of R.
-pub record OneMoreBytes (L : ℕ) (S R : System ℕ) (q : ℕ) : Type 0 where
-  pub all : (i : ℕ) → i < S .count → (k : ℕ) × (k < R .count) × ((c : ℕ) → c < L → S .coef i c ≡ R .coef k c)
-  pub below : q < R .count
-  pub only : (i : ℕ) → i < R .count
-      → ((k : ℕ) × (k < S .count) × ((c : ℕ) → c < L → R .coef i c ≡ S .coef k c)) ⊎ ((c : ℕ) → c < L → R .coef i c ≡ R .coef q c)

@@ -1,10 +1,9 @@
 -- Independent rows, and the most of them that a matrix has: what demand 3's shortfall is counted by.
 -- Assumes nothing.
 use mathlib.Core.Path.{_≡_}
-use mathlib.Core.Logic.{_≢_, _⊎_}
+use mathlib.Core.Logic.{_≢_}
 use Prim.Native.Nat.{ℕ, _≤_, _<_}
 use Rattle.linear.specs.Field.{Field}
-use Rattle.linear.specs.Index.{Col, cut}
 use Rattle.linear.specs.Span.{lin, Within}
 
 module _ (K : Field) where
@@ -42,11 +41,3 @@ module _ (K : Field) where
     -- each row of the first is a row of the second
     abbrev pub RowsOf : ℕ → (ℕ → J → F) → ℕ → (ℕ → J → F) → Type 0
     RowsOf M w N u = (i : ℕ) → i < M → (k : ℕ) × (k < N) × ((j : J) → w i j ≡ u k j)
-
-  -- B has the rows of A and the row v
-  pub record OneMore (L M N : ℕ) (A B : ℕ → ℕ → F) (v : ℕ → F) : Type 0 where
-    pub all : RowsOf M (cut L A) N (cut L B)
-    pub new : ℕ
-    pub new-below : new < N
-    pub new-is : (c : Col L) → v (c .0) ≡ cut L B new c
-    pub only : (i : ℕ) → i < N → ((k : ℕ) × (k < M) × ((c : Col L) → cut L B i c ≡ cut L A k c)) ⊎ ((c : Col L) → cut L B i c ≡ v (c .0))

@@ -6,7 +6,6 @@ use mathlib.Core.List.{List, [], _++_}
 use Prim.Native.Nat.{ℕ, _+_, _-_, _*_, _≤_, _<_}
 use native.Mathlib.Decide.{decLt}
 use native.Mathlib.Omega.{arith}
-use borrow.Author.Tests.{lt-ltb}
 use lib.ListN.{length, getD, replicate, length-replicate, getD-replicate, length-append, List·getD-append, List·getD-eq-default}
 use Rattle.field.specs.Octet.{times}
 use Rattle.field.proofs.Laws.{times-zero}
@@ -25,6 +24,7 @@ use Rattle.solver.specs.System.{fixed, equations, sentRow, rowOf, systemOf}
 use Rattle.solver.specs.declared.solver.Solution.the-variants.{Given}
 use Rattle.solver.proofs.Holding.{row-arrival}
 use Rattle.promises.specs.Calls.{Call, Fitting, MostRows}
+use Rattle.promises.proofs.Equations.{fixed-row}
 use Rattle.promises.proofs.Exactly.{accepted, k-low, contradiction-none, solved-shortfall, solved-rows}
 
 -- independent rows are at most as many as there are rows
@@ -53,13 +53,9 @@ module _ {v : List ℕ} {r : Row} {k t : ℕ} {es xs o o₁ : List ℕ} where
 -- ---- n arrivals more
 
 module _ (v : List ℕ) (r : Row) (k t : ℕ) (es xs gs ys : List ℕ) where
-  -- the first rows stay what they are, whatever the symbols
-  fixed-row : (i c : ℕ) → i < fixed r k → rowOf v r k (es ++ gs) i c ≡ rowOf v r k es i c
-  unfolding rowOf
-  fixed-row i c h = rw (lt-ltb i (fixed r k) h)
-
-  arrival-row : (i c : ℕ) → fixed r k ≤ i → i < fixed r k + length es → rowOf v r k (es ++ gs) i c ≡ rowOf v r k es i c
-  arrival-row i c l h =
+  -- the rows of the first arrivals stay what they are, whatever the symbols
+  old-row : (i c : ℕ) → fixed r k ≤ i → i < fixed r k + length es → rowOf v r k (es ++ gs) i c ≡ rowOf v r k es i c
+  old-row i c l h =
       row-arrival r v k t (es ++ gs) ys i c l ∙ ap (λ (e : ℕ). sentRow v r k e c) (List·getD-append es gs 0 (i - fixed r k) (omega arith))
       ∙ sym (row-arrival r v k t es xs i c l)
 
@@ -68,8 +64,8 @@ module _ (v : List ℕ) (r : Row) (k t : ℕ) (es xs gs ys : List ℕ) where
     where
       go : (i : ℕ) → i < equations r k (length (es ++ gs)) → Dec (i < fixed r k) → Dec (i < fixed r k + length es)
           → ((q : ℕ) × (q < equations r k (length es)) × ((c : ℕ) → c < lOf r → rowOf v r k (es ++ gs) i c ≡ rowOf v r k es q c)) ⊎ ((q : ℕ) × (q < length gs) × (i ≡ fixed r k + length es + q))
-      go i h (yes q) l = inl (i, omega arith, λ c _. fixed-row i c q)
-      go i h (no q) (yes l) = inl (i, l, λ c _. arrival-row i c (omega arith) l)
+      go i h (yes q) l = inl (i, omega arith, λ c _. fixed-row v r k t (es ++ gs) es i c q)
+      go i h (no q) (yes l) = inl (i, l, λ c _. old-row i c (omega arith) l)
       go i h (no q) (no l) = inr (i - (fixed r k + length es), omega (arith, length-append es gs), omega arith)
 
 module _ {v : List ℕ} {r : Row} {k t : ℕ} {es xs o o₁ p p₁ : List ℕ} {s : ℕ} (gs ys : List ℕ) (c : Call r v k t es xs o o₁ (Given (Open s))) where

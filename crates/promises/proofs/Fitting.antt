@@ -20,6 +20,7 @@ use Rattle.encoding.specs.Encoded.{combined}
 use Rattle.solver.specs.System.{fixed, equations, sentRow, systemOf}
 use Rattle.solver.proofs.Holding.{row-ldpc, row-hdpc, row-padding, row-arrival, byte-fixed, byte-arrival}
 use Rattle.promises.specs.Calls.{Meets, Yields, Fitting}
+use Rattle.promises.proofs.Equations.{arrival-row, arrival-byte}
 
 module _ (v : List ℕ) (r : Row) (k t : ℕ) (es xs C : List ℕ) where
   -- the sum of row i of the call's system, where that row is f
@@ -45,14 +46,9 @@ module _ (v : List ℕ) (r : Row) (k t : ℕ) (es xs C : List ℕ) where
   pub fits-yields : FitsBytes (lOf r) t (systemOf r v k t es xs) C → Yields v r k t es xs C
   fits-yields f = record {
     arrival = λ i h b l.
-        sym (row-sum (fixed r k + i) b (sentRow v r k (getD es i 0)) (λ c q. arrival-row i c)) ∙ f .meets (fixed r k + i) (omega arith) b l ∙ arrival-byte i b;
+        sym (row-sum (fixed r k + i) b (sentRow v r k (getD es i 0)) (λ c q. arrival-row v r k t es xs i c)) ∙ f .meets (fixed r k + i) (omega arith) b l
+        ∙ arrival-byte v r k t es xs i b;
   }
-    where
-      arrival-row : (i c : ℕ) → systemOf r v k t es xs .coef (fixed r k + i) c ≡ sentRow v r k (getD es i 0) c
-      arrival-row i c = row-arrival r v k t es xs (fixed r k + i) c (omega arith) ∙ ap (λ (x : ℕ). sentRow v r k (getD es x 0) c) (add-sub-cancel-left (fixed r k) i)
-
-      arrival-byte : (i b : ℕ) → systemOf r v k t es xs .byte (fixed r k + i) b ≡ cell t xs i b
-      arrival-byte i b = byte-arrival r v k t es xs (fixed r k + i) b (omega arith) ∙ ap (λ (x : ℕ). cell t xs x b) (add-sub-cancel-left (fixed r k) i)
 
   -- and the other way round
   pub meets-fits : Meets v r k t C → Yields v r k t es xs C → FitsBytes (lOf r) t (systemOf r v k t es xs) C

@@ -1,4 +1,5 @@
 -- The theorems of demand 3 about calls. A crate above names these as `Rattle.promises.proofs.Growth`.
+pub mod Equations
 pub mod Fitting
 pub mod Exactly
 pub mod Growth

@@ -16,8 +16,8 @@ use Rattle.elimination.proofs.Once.{means-once}
 use Rattle.solver.specs.System.{systemOf}
 use Rattle.solver.specs.declared.solver.Solution.the-variants.{Given}
 use Rattle.promises.specs.Calls.{Call, Among, setIn}
+use Rattle.promises.proofs.Equations.{among-equations}
 use Rattle.promises.proofs.Exactly.{contradiction-not-solved, open-not-solved}
-use Rattle.promises.proofs.Growth.{among-equations}
 
 -- one verdict serves both systems
 means-same : {L T : ℕ} {S R : System ℕ} (o o₁ : List ℕ) → Included L T S R → Included L T R S → (w : Verdict) → Means L T S o o₁ w → Means L T R o o₁ w
@@ -40,7 +40,7 @@ verdict-once L T S o o₁ p p₁ (Open m) (Open n) a b = (ap Open (shortfall-byt
 
 means-other : {v : List ℕ} {r : Row} {k t : ℕ} {es xs fs ys o o₁ : List ℕ} → Among t es xs fs ys → Among t fs ys es xs → (w : Verdict)
     → Call r v k t es xs o o₁ (Given w) → Means (lOf r) t (systemOf r v k t fs ys) o o₁ w
-means-other {v} {r} {k} {o = o} {o₁ = o₁} to back w c = means-same o o₁ (among-equations v r k to) (among-equations v r k back) w (c .contract .1)
+means-other {v} {r} {k} {t} {o = o} {o₁ = o₁} to back w c = means-same o o₁ (among-equations v r k t to) (among-equations v r k t back) w (c .contract .1)
 
 module _ {v : List ℕ} {r : Row} {k t : ℕ} {es xs fs ys o o₁ p p₁ : List ℕ} (to : Among t es xs fs ys) (back : Among t fs ys es xs) where
   -- the verdict with its shortfall, and the set

@@ -4,24 +4,21 @@ use mathlib.Core.Path.{_≡_, refl, sym, ap, _∙_, subst}
 use mathlib.Core.List.{List}
 use Prim.Native.Nat.{ℕ, _+_, _*_, _≤_, _<_}
 use native.Mathlib.Omega.{arith}
-use borrow.Author.Tests.{le-ltb, le-leb, lt-leb, eq-eqb, ne-eqb}
 use lib.ListN.{length, getD}
 use lib.Seq.{getD-take}
-use Rattle.field.specs.Answer.{given}
 use Rattle.field.specs.Octet.{times}
 use Rattle.field.proofs.Refusals.{done-only}
 use Rattle.field.proofs.Sums.{sum-same}
 use Rattle.field.specs.declared.refusal.Answer as Plain
 use Rattle.field.specs.declared.refusal.Answer.the-variants as Plains
-use Rattle.headers.specs.Row.{Obeys, lOf}
+use Rattle.headers.specs.Row.{lOf}
 use Rattle.headers.specs.Shift.{shifted}
 use Rattle.headers.specs.declared.row.Row.{Row}
-use Rattle.headers.proofs.Accepted.{obeyed}
 use Rattle.constraints.specs.Encoding.{encOf}
 use Rattle.linear.specs.Bytes.{cell, Block}
 use Rattle.linear.proofs.Bytes.{cell-lt}
-use Rattle.encoding.specs.Encoded.{Encodes, allowed}
-use Rattle.encoding.proofs.Allowed.{never-long}
+use Rattle.encoding.specs.Encoded.{Encodes}
+use Rattle.encoding.proofs.Allowed.{Allowed, encodes-done}
 use Rattle.elimination.specs.declared.verdict.Verdict.{Verdict}
 use Rattle.elimination.specs.declared.verdict.Verdict.the-variants.{Solved}
 use Rattle.solver.specs.declared.solver.Solution.the-variants.{Given}
@@ -63,19 +60,23 @@ recovers block meets made c n m = rebuilds-sent c refl (sent-fitting block meets
 
 -- ---- and such a call is not refused
 
-allows : (r : Row) (tables k t e have room : ℕ) → Obeys r → tables ≡ 1024 → 1 ≤ k → k ≤ r .k → e < 16777216 → 0 < t → lOf r * t ≤ have → t ≤ room
-    → allowed r tables k t e have room ≡ given tt
-allows r tables k t e have room rules whole low high sent some enough fits =
-    rw (obeyed rules, eq-eqb tables 1024 whole, le-leb 1 k low, le-leb k (r .k) high, lt-leb 16777216 e sent, ne-eqb t 0 (λ q. absurd (omega arith)), le-ltb have (lOf r * t) enough, le-ltb room t fits)
-
 -- for any ESI below 2^24, with intermediates that have room for the set and an out store that has room for a symbol
 pub reencoding-done : {v : List ℕ} {r : Row} {k t : ℕ} {es xs o o₁ C : List ℕ} {e : ℕ} {ys zs : List ℕ} {a : Plain.Answer} (w : Verdict)
     → Call r v k t es xs o o₁ (Given w)
     → e < 16777216 → lOf r * t ≤ length C → t ≤ length ys → Encodes v r k t e C ys zs a → a ≡ Plains.Done
 reencoding-done {v} {r} {k} {t} {C = C} {e = e} {ys = ys} {a = a} w c sent enough room n =
     let h = accepted w c in
-    done-only a Plains.Done (n .answer ∙ never-long v r k t e (length C) (length ys)
-    ∙ allows r (length v) k t e (length C) (length ys) (h .rules) (h .whole) (k-low w c) (h .k-high) sent (h .t-low) enough room)
+    let may : Allowed r (length v) k t e (length C) (length ys) = record {
+      rules = h .rules;
+      all = h .whole;
+      k-low = k-low w c;
+      k-high = h .k-high;
+      sent = sent;
+      some = λ q. absurd (omega (arith, h .t-low));
+      enough = enough;
+      fits = room;
+    } in
+    done-only a Plains.Done (encodes-done may n)
 
 -- and that of an arrival is below 2^24
 pub came-small : {v : List ℕ} {r : Row} {k t : ℕ} {es xs o o₁ : List ℕ} {e : ℕ} {f : ℕ → ℕ} (w : Verdict) → Call r v k t es xs o o₁ (Given w) → Came t es xs e f

@@ -3,7 +3,7 @@ use delivery::beneath::deliver;
 use libc::STDIN_FILENO;
 use libc::STDOUT_FILENO;
 
-// A delivery that fills the input is too large, whatever its symbol size.
+// A delivery that fills the input is never taken (`longest`), so none that was cut there is taken for a whole one.
 fn main() {
     let mut input = [0u8; 375236];
     let n = io::read_full(STDIN_FILENO, &mut input);

@@ -5,4 +5,3 @@ pub mod Filling
 pub mod Holding
 pub mod Settled
 pub mod Admitted
-pub mod Calls

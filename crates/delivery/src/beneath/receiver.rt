@@ -13,7 +13,6 @@ use crate::beneath::screen;
 use crate::beneath::screen::Screened;
 use crate::beneath::screen::Stop;
 use elimination::verdict::Verdict;
-use field::refusal::Refusal;
 use headers::beneath::row;
 use headers::beneath::util;
 use headers::row::Row;

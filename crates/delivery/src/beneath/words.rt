@@ -1,5 +1,4 @@
 // What comes of a delivery that gives no object, in one line of words at the front of a lent store.
-ghost use mathlib.Core.Path.{_≡_};
 ghost use Prim.Native.Nat.{_≤_};
 ghost use lib.ListN.{length};
 ghost use Rattle.delivery.specs.Words.{Line, openWords, refusalWords, stopWords};

@@ -7,7 +7,6 @@ use lib.ListN.{length, drop, length-drop}
 use lib.Seq.{take-all}
 use denote.Ref.{now}
 use Rattle.headers.specs.Headers.{idAt}
-use lib.ListN.{length-drop}
 use borrow.Author.Needs.{needs}
 use Rattle.delivery.proofs.beneath.packets.id.Statement.{statement}
 use Rattle.delivery.proofs.beneath.packets.id.Tie as tie
