@@ -1,7 +1,6 @@
 -- The product of MT and GAMMA, column by column from the right: each column is alpha times the next, and what MT has.
 -- Assumes nothing.
 use mathlib.Core.Path.{_≡_, sym, ap, ap₂, _∙_, subst}
-use mathlib.Core.Bool.{Bool, true, false}
 use mathlib.Core.List.{List}
 use Prim.Native.Nat.{ℕ, zero, suc, _+_, _-_, _*_, _%_, _<_, _≤_}
 use native.Mathlib.Nat.{mod-eq-of-lt, mod-eq-sub-mod, sub-self, add-assoc}
@@ -14,7 +13,7 @@ use lib.ListN.{getD}
 use lib.Dec.{eqb, ltb}
 use Rattle.field.specs.Choice.{pick}
 use Rattle.field.specs.Octet.{plus, times, doubled, power}
-use Rattle.field.proofs.Laws.{times-lt, times-zero, times-one, times-plus, times-left-comm, power-lt, power-suc, doubled-times}
+use Rattle.field.proofs.Laws.{pick-lt, times-lt, times-zero, times-one, times-plus, times-left-comm, power-lt, power-suc, doubled-times}
 use Rattle.field.proofs.Xor.{assoc}
 use Rattle.field.specs.Sum.{sum, unit}
 use Rattle.field.proofs.Sums.{unit-same, unit-other, sum-zero, sum-last, sum-lt}
@@ -120,10 +119,6 @@ mt-ones v n h i j p b = rw (lt-ltb j (n - 1) (omega arith)) (two i (first v h j)
 mt-last : (v : List ℕ) (n h i j : ℕ) → n ≡ j + 1 → mt v n h i j ≡ power i
 unfolding mt
 mt-last v n h i j e = rw (le-ltb j (n - 1) (omega arith))
-
-pick-lt : (t : Bool) {a b m : ℕ} → a < m → b < m → pick t a b < m
-pick-lt true ha hb = ha
-pick-lt false ha hb = hb
 
 mt-lt : (v : List ℕ) (n h i k : ℕ) → mt v n h i k < 256
 unfolding mt

@@ -4,7 +4,6 @@ use mathlib.Core.Path.{_≡_, refl, sym, ap, _∙_}
 use mathlib.Core.Logic.{_≢_, _⊎_, inl, inr, ⊎-elim}
 use mathlib.Core.List.{List}
 use Prim.Native.Nat.{ℕ, _+_, _*_, _≤_, _<_}
-use native.Mathlib.Nat.{mul-le-mul-right}
 use native.Mathlib.Omega.{arith}
 use native.Mathlib.Decide.{ℕ-discrete, decLt}
 use borrow.Author.Tests.{eq-eqb, ne-eqb}
@@ -13,7 +12,7 @@ use Rattle.field.specs.Octet.{plus, doubled, copies, times, squares, inverse, o
 use Rattle.field.specs.Answer.{given, refused, divided}
 use Rattle.field.specs.Runs.{Apart, Written, added, fused, part, scaled}
 use Rattle.field.proofs.Laws.{one-times, inverse-lt}
-use Rattle.field.proofs.Parts.{part-at}
+use Rattle.field.proofs.Parts.{part-at, block-ends, blocks-apart}
 use Rattle.field.proofs.Writing.{written-as}
 use Rattle.linear.specs.Bytes.{Bytes, cell}
 use Rattle.linear.specs.Rows.{RowAdded, RowTimes}
@@ -24,15 +23,11 @@ use Rattle.elimination.specs.Steps.{Moved}
 
 -- a row ends where the next begins
 pub row-in : (n w i : ℕ) {len : ℕ} → i < n → n * w ≤ len → i * w + w ≤ len
-row-in n w i h l = omega (arith, mul-le-mul-right w h)
+row-in n w i h l = omega (arith, block-ends w h)
 
 -- two rows do not meet
 pub rows-apart : (n w i k : ℕ) {len : ℕ} → i < n → k < n → i ≢ k → n * w ≤ len → Apart len w (i * w) (k * w)
-rows-apart n w i k hi hk ne l = record { to-in = row-in n w i hi l; from-in = row-in n w k hk l; apart = go (decLt i k) }
-  where
-    go : Dec (i < k) → (i * w + w ≤ k * w) ⊎ (k * w + w ≤ i * w)
-    go (yes h) = inl (omega (arith, mul-le-mul-right w h))
-    go (no h) = let b : k < i = omega arith in inr (omega (arith, mul-le-mul-right w b))
+rows-apart n w i k hi hk ne l = record { to-in = row-in n w i hi l; from-in = row-in n w k hk l; apart = blocks-apart i k w ne }
 
 -- nor do they the other way round, in a store as long
 pub apart-back : {len long w i k : ℕ} → Apart len w i k → long ≡ len → Apart long w k i

@@ -4,12 +4,11 @@ use mathlib.Core.Path.{_≡_, refl, sym, ap, ap₂, _∙_}
 use Prim.Native.Nat.{ℕ, zero, suc, _<_}
 use native.Mathlib.Omega.{arith}
 use borrow.Author.Tests.{eq-eqb, ne-eqb}
-use lib.Dec.{eqb}
 use lib.Bits.{xor-comm, xor-lt, xor-zero-l, xor-zero-r}
 use Rattle.field.specs.Octet.{plus, times}
 use Rattle.field.specs.Sum.{sum, unit}
 use Rattle.field.proofs.Xor.{assoc, swap}
-use Rattle.field.proofs.Laws.{pick-lt, times-plus, times-comm, times-zero}
+use Rattle.field.proofs.Laws.{times-plus, times-comm, times-zero}
 
 -- equal terms, equal sums
 pub sum-same : (n : ℕ) {f g : ℕ → ℕ} → ((k : ℕ) → k < n → f k ≡ g k) → sum n f ≡ sum n g
@@ -70,7 +69,3 @@ unit-same i j e = rw (eq-eqb i j e)
 pub unit-other : (i j : ℕ) → (i ≡ j → ⊥) → unit i j ≡ 0
 unfolding unit
 unit-other i j n = rw (ne-eqb i j n)
-
-pub unit-lt : (i j : ℕ) → unit i j < 2
-unfolding unit
-unit-lt i j = pick-lt (eqb i j) (omega arith) (omega arith)

@@ -47,15 +47,6 @@ unfolding standing
 standing-none [] i n = refl
 standing-none (x ∷ es) i n = rw (ne-eqb x i (n 0 (omega arith))) (ap suc (standing-none es i (λ q l. n (suc q) (omega arith))))
 
-pub standing-le : (es : List ℕ) (i : ℕ) → standing es i ≤ length es
-unfolding standing
-standing-le [] i = omega arith
-standing-le (x ∷ es) i = go (eqb x i) (standing-le es i)
-  where
-    go : (b : Bool) → standing es i ≤ length es → pick b 0 (suc (standing es i)) ≤ suc (length es)
-    go true h = omega arith
-    go false h = omega arith
-
 -- the answer of `locate` is settled
 pub located-only : (p q : Shown) → outcome p ≡ outcome q → p ≡ q
 located-only (Showns.Arrived a) (Showns.Arrived b) e = cc

@@ -1,14 +1,14 @@
 -- `solver::display::locate` meets its contract: the refusals first, then the place.
 -- Assumes nothing.
-use mathlib.Core.Path.{_≡_, sym, ap, _∙_}
+use mathlib.Core.Path.{sym, ap, _∙_}
 use native.Mathlib.Omega.{arith}
 use borrow.Author.Needs.{needs}
 use lib.ListN.{length}
 use denote.Ref.{now}
 use Rattle.field.proofs.Refusals.{went-on, stopped, told}
-use Rattle.field.specs.Answer.{done, given}
+use Rattle.field.specs.Answer.{given}
 use Rattle.solver.proofs.Displays.{asked}
-use Rattle.solver.specs.Display.{answerable, anyLarge, whereof}
+use Rattle.solver.specs.Display.{answerable, whereof}
 use Rattle.solver.proofs.display.locate.Statement.{statement}
 use Rattle.solver.proofs.display.locate.Tie as tie
 

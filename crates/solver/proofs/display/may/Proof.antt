@@ -2,7 +2,6 @@
 -- Assumes nothing.
 use native.Mathlib.Nat.{mul-le-mul}
 use native.Mathlib.Omega.{arith}
-use borrow.Author.Needs.{needs}
 use borrow.Author.Tests.{lt-ltb, le-ltb, le-leb, lt-leb, eq-eqb, ne-eqb}
 use Rattle.solver.proofs.display.may.Statement.{statement}
 use Rattle.solver.proofs.display.may.Tie as tie
