@@ -2,8 +2,8 @@
 -- Assumes nothing.
 use mathlib.Core.Path.{_≡_, refl, sym, ap, ap₂, _∙_, subst}
 use mathlib.Core.List.{List}
-use Prim.Native.Nat.{ℕ, _+_, _-_, _*_, _≤_, _<_}
-use native.Mathlib.Nat.{zero-add, mul-le-mul, add-sub-cancel-left}
+use Prim.Native.Nat.{ℕ, _+_, _*_, _≤_, _<_}
+use native.Mathlib.Nat.{zero-add, mul-le-mul}
 use native.Mathlib.Omega.{arith}
 use borrow.Author.Tests.{lt-ltb}
 use lib.Arith.{digits-div, digits-mod, digits-lt}
@@ -17,14 +17,13 @@ use Rattle.field.proofs.Writing.{written-once}
 use Rattle.headers.specs.Shift.{shifted}
 use Rattle.headers.specs.declared.row.Row.{Row}
 use Rattle.linear.specs.System.{System}
-use Rattle.linear.specs.Bytes.{cell, tabulate}
 use Rattle.linear.proofs.AnswersBytes.{shortfall-bytes-once, solved-bytes-not-contradiction, open-bytes-not-contradiction, solved-bytes-not-open}
 use Rattle.linear.proofs.Bytes.{length-tabulate, getD-tabulate}
 use Rattle.encoding.specs.Encoded.{encoded}
 use Rattle.encoding.proofs.Settled.{RowOf, encoded-fits}
 use Rattle.constraints.specs.Encoding.{encOf}
 use Rattle.solver.specs.System.{fixed, sentRow}
-use Rattle.solver.proofs.Holding.{row-arrival, byte-arrival}
+use Rattle.solver.proofs.Holding.{arrival-row, arrival-byte}
 use Rattle.delivery.specs.Layout.{rowAt, tablesOf, kOf, tOf, nOf, packetAt, esiAt, octetAt, esisOf, symbolsOf}
 use Rattle.delivery.specs.Screen.{screen, stopOf}
 use Rattle.delivery.specs.Received.{Rebuilt, Comes, sourceOctet, deliveredSystem}
@@ -121,17 +120,15 @@ longest d e =
 -- ---- what arrived stands in the object
 
 module _ (d : List ℕ) (p b : ℕ) (h : p < nOf d) (l : esiAt d (tOf d) p < kOf d) (s : b < tOf d) where
-  esi-is : getD (esisOf d) (fixed (rowAt d) (kOf d) + p - fixed (rowAt d) (kOf d)) 0 ≡ esiAt d (tOf d) p
+  esi-is : getD (esisOf d) p 0 ≡ esiAt d (tOf d) p
   unfolding esisOf
-  esi-is =
-      ap (λ (i : ℕ). getD (tabulate (nOf d) (esiAt d (tOf d))) i 0) (add-sub-cancel-left (fixed (rowAt d) (kOf d)) p)
-      ∙ getD-tabulate (nOf d) (esiAt d (tOf d)) p h
+  esi-is = getD-tabulate (nOf d) (esiAt d (tOf d)) p h
 
   -- its equation is that of its ESI
   row-is : RowOf (tablesOf d) (rowAt d) (deliveredSystem d) (fixed (rowAt d) (kOf d) + p) (esiAt d (tOf d) p)
   row-is c u =
       let e : shifted (esiAt d (tOf d) p) (kOf d) (rowAt d .k) ≡ esiAt d (tOf d) p = simp (lt-ltb (esiAt d (tOf d) p) (kOf d) l) in
-      row-arrival (rowAt d) (tablesOf d) (kOf d) (tOf d) (esisOf d) (symbolsOf d) (fixed (rowAt d) (kOf d) + p) c (omega arith)
+      arrival-row (rowAt d) (tablesOf d) (kOf d) (tOf d) (esisOf d) (symbolsOf d) p c
       ∙ ap (λ (x : ℕ). sentRow (tablesOf d) (rowAt d) (kOf d) x c) esi-is
       ∙ ap (λ (x : ℕ). encOf (tablesOf d) (rowAt d) x c) e
 
@@ -139,8 +136,7 @@ module _ (d : List ℕ) (p b : ℕ) (h : p < nOf d) (l : esiAt d (tOf d) p < kOf
   byte-is : deliveredSystem d .byte (fixed (rowAt d) (kOf d) + p) b ≡ getD d (packetAt (tOf d) p + 4 + b) 0
   unfolding symbolsOf octetAt
   byte-is =
-      byte-arrival (rowAt d) (tablesOf d) (kOf d) (tOf d) (esisOf d) (symbolsOf d) (fixed (rowAt d) (kOf d) + p) b (omega arith)
-      ∙ ap (λ (i : ℕ). cell (tOf d) (symbolsOf d) i b) (add-sub-cancel-left (fixed (rowAt d) (kOf d)) p)
+      arrival-byte (rowAt d) (tablesOf d) (kOf d) (tOf d) (esisOf d) (symbolsOf d) p b
       ∙ getD-tabulate (nOf d * tOf d) (octetAt d (tOf d)) (p * tOf d + b) (digits-lt h s)
       ∙ ap₂ (λ (x y : ℕ). getD d (packetAt (tOf d) x + 4 + y) 0) (digits-div p s) (digits-mod p s)
 

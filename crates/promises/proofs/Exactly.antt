@@ -31,13 +31,13 @@ use Rattle.promises.proofs.Fitting.{fitting-fits, fits-fitting}
 
 -- ---- the three verdicts differ
 
-pub contradiction-not-solved : Contradiction ≡ Solved → ⊥
+contradiction-not-solved : Contradiction ≡ Solved → ⊥
 contradiction-not-solved e = let z : _≡_ {A = ℕ} 0 1 = cc in omega arith
 
-pub open-not-solved : {s : ℕ} → Open s ≡ Solved → ⊥
+open-not-solved : {s : ℕ} → Open s ≡ Solved → ⊥
 open-not-solved e = let z : _≡_ {A = ℕ} 0 1 = cc in omega arith
 
-pub open-not-contradiction : {s : ℕ} → Open s ≡ Contradiction → ⊥
+open-not-contradiction : {s : ℕ} → Open s ≡ Contradiction → ⊥
 open-not-contradiction e = let z : _≡_ {A = ℕ} 0 1 = cc in omega arith
 
 single-not-several : {v : List ℕ} {r : Row} {k t : ℕ} {es xs C : List ℕ} → Single v r k t es xs C → Several v r k t es xs → ⊥

@@ -18,9 +18,8 @@ use Rattle.constraints.specs.Ldpc.{ldpcOf}
 use Rattle.linear.specs.Bytes.{cell, Block, FitsBytes}
 use Rattle.encoding.specs.Encoded.{combined}
 use Rattle.solver.specs.System.{fixed, equations, sentRow, systemOf}
-use Rattle.solver.proofs.Holding.{row-ldpc, row-hdpc, row-padding, row-arrival, byte-fixed, byte-arrival}
+use Rattle.solver.proofs.Holding.{row-ldpc, row-hdpc, row-padding, row-arrival, byte-fixed, byte-arrival, arrival-row, arrival-byte}
 use Rattle.promises.specs.Calls.{Meets, Yields, Fitting}
-use Rattle.promises.proofs.Equations.{arrival-row, arrival-byte}
 
 module _ (v : List ℕ) (r : Row) (k t : ℕ) (es xs C : List ℕ) where
   -- the sum of row i of the call's system, where that row is f
@@ -46,8 +45,8 @@ module _ (v : List ℕ) (r : Row) (k t : ℕ) (es xs C : List ℕ) where
   pub fits-yields : FitsBytes (lOf r) t (systemOf r v k t es xs) C → Yields v r k t es xs C
   fits-yields f = record {
     arrival = λ i h b l.
-        sym (row-sum (fixed r k + i) b (sentRow v r k (getD es i 0)) (λ c q. arrival-row v r k t es xs i c)) ∙ f .meets (fixed r k + i) (omega arith) b l
-        ∙ arrival-byte v r k t es xs i b;
+        sym (row-sum (fixed r k + i) b (sentRow v r k (getD es i 0)) (λ c q. arrival-row r v k t es xs i c)) ∙ f .meets (fixed r k + i) (omega arith) b l
+        ∙ arrival-byte r v k t es xs i b;
   }
 
   -- and the other way round

@@ -1,6 +1,6 @@
 -- Neither the order of arrivals nor their repetition counts: calls whose arrivals are among each other's answer alike.
 -- Assumes nothing.
-use mathlib.Core.Path.{_≡_, refl, sym, ap, subst}
+use mathlib.Core.Path.{_≡_, sym, _∙_, subst}
 use mathlib.Core.List.{List}
 use Prim.Native.Nat.{ℕ, _*_}
 use lib.ListN.{take}
@@ -8,16 +8,15 @@ use Rattle.headers.specs.Row.{lOf}
 use Rattle.headers.specs.declared.row.Row.{Row}
 use Rattle.linear.specs.System.{System, Included}
 use Rattle.linear.proofs.Growth.{same-solved, same-contradiction, same-open, same-shortfall}
-use Rattle.linear.proofs.AnswersBytes.{solved-bytes-once, shortfall-bytes-once, solved-bytes-not-contradiction, open-bytes-not-contradiction, solved-bytes-not-open}
+use Rattle.linear.proofs.AnswersBytes.{solved-bytes-once}
 use Rattle.elimination.specs.Verdict.{Means}
 use Rattle.elimination.specs.declared.verdict.Verdict.{Verdict}
 use Rattle.elimination.specs.declared.verdict.Verdict.the-variants.{Solved, Contradiction, Open}
-use Rattle.elimination.proofs.Once.{means-once}
+use Rattle.elimination.proofs.Once.{verdict-once, means-once}
 use Rattle.solver.specs.System.{systemOf}
 use Rattle.solver.specs.declared.solver.Solution.the-variants.{Given}
 use Rattle.promises.specs.Calls.{Call, Among, setIn}
 use Rattle.promises.proofs.Equations.{among-equations}
-use Rattle.promises.proofs.Exactly.{contradiction-not-solved, open-not-solved}
 
 -- one verdict serves both systems
 means-same : {L T : ℕ} {S R : System ℕ} (o o₁ : List ℕ) → Included L T S R → Included L T R S → (w : Verdict) → Means L T S o o₁ w → Means L T R o o₁ w
@@ -25,18 +24,11 @@ means-same o o₁ f g Solved m = (same-solved f g (m .0), m .1)
 means-same o o₁ f g Contradiction m = (same-contradiction f g (m .0), m .1)
 means-same o o₁ f g (Open s) m = (same-open f g (m .0), same-shortfall f g (m .1), m .2)
 
--- of one system there is one verdict, whatever the out store was, and one set
-verdict-once : (L T : ℕ) (S : System ℕ) (o o₁ p p₁ : List ℕ) (w u : Verdict) → Means L T S o o₁ w → Means L T S p p₁ u
-    → (w ≡ u) × (w ≡ Solved → take (L * T) o₁ ≡ take (L * T) p₁)
-verdict-once L T S o o₁ p p₁ Solved Solved a b = (refl, λ _. solved-bytes-once (a .0) (b .0))
-verdict-once L T S o o₁ p p₁ Solved Contradiction a b = absurd (solved-bytes-not-contradiction (a .0) (b .0))
-verdict-once L T S o o₁ p p₁ Solved (Open n) a b = absurd (solved-bytes-not-open (a .0) (b .0))
-verdict-once L T S o o₁ p p₁ Contradiction Solved a b = absurd (solved-bytes-not-contradiction (b .0) (a .0))
-verdict-once L T S o o₁ p p₁ Contradiction Contradiction a b = (refl, λ e. absurd (contradiction-not-solved e))
-verdict-once L T S o o₁ p p₁ Contradiction (Open n) a b = absurd (open-bytes-not-contradiction (b .0) (a .0))
-verdict-once L T S o o₁ p p₁ (Open m) Solved a b = absurd (solved-bytes-not-open (b .0) (a .0))
-verdict-once L T S o o₁ p p₁ (Open m) Contradiction a b = absurd (open-bytes-not-contradiction (a .0) (b .0))
-verdict-once L T S o o₁ p p₁ (Open m) (Open n) a b = (ap Open (shortfall-bytes-once (a .1) (b .1)), λ e. absurd (open-not-solved e))
+-- where both are solved, the sets are one
+set-once : (L T : ℕ) (S : System ℕ) (o o₁ p p₁ : List ℕ) (w u : Verdict) → w ≡ Solved → u ≡ Solved → Means L T S o o₁ w → Means L T S p p₁ u
+    → take (L * T) o₁ ≡ take (L * T) p₁
+set-once L T S o o₁ p p₁ w u e f a b =
+    solved-bytes-once (subst (λ (x : Verdict). Means L T S o o₁ x) e a .0) (subst (λ (x : Verdict). Means L T S p p₁ x) f b .0)
 
 means-other : {v : List ℕ} {r : Row} {k t : ℕ} {es xs fs ys o o₁ : List ℕ} → Among t es xs fs ys → Among t fs ys es xs → (w : Verdict)
     → Call r v k t es xs o o₁ (Given w) → Means (lOf r) t (systemOf r v k t fs ys) o o₁ w
@@ -46,7 +38,11 @@ module _ {v : List ℕ} {r : Row} {k t : ℕ} {es xs fs ys o o₁ p p₁ : List 
   -- the verdict with its shortfall, and the set
   pub order-free : (w u : Verdict) → Call r v k t es xs o o₁ (Given w) → Call r v k t fs ys p p₁ (Given u)
       → (w ≡ u) × (w ≡ Solved → setIn r t o₁ ≡ setIn r t p₁)
-  order-free w u c d = verdict-once (lOf r) t (systemOf r v k t fs ys) o o₁ p p₁ w u (means-other to back w c) (d .contract .1)
+  order-free w u c d =
+      let S : System ℕ = systemOf r v k t fs ys in
+      let m = means-other to back w c in
+      let q = verdict-once (lOf r) t S o o₁ p p₁ w u m (d .contract .1) in
+      (q, λ e. set-once (lOf r) t S o o₁ p p₁ w u e (sym q ∙ e) m (d .contract .1))
 
   -- and the whole out store, if it was the same before
   pub order-free-out : o ≡ p → (w u : Verdict) → Call r v k t es xs o o₁ (Given w) → Call r v k t fs ys p p₁ (Given u) → o₁ ≡ p₁

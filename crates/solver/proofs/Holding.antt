@@ -3,7 +3,7 @@
 use mathlib.Core.Path.{_≡_, refl, sym, ap, _∙_, subst}
 use mathlib.Core.List.{List}
 use Prim.Native.Nat.{ℕ, _+_, _-_, _*_, _≤_, _<_}
-use native.Mathlib.Nat.{mul-le-mul-right}
+use native.Mathlib.Nat.{mul-le-mul-right, add-sub-cancel-left}
 use native.Mathlib.Decide.{decLt}
 use native.Mathlib.Omega.{arith}
 use borrow.Author.Tests.{lt-ltb, le-ltb}
@@ -47,6 +47,13 @@ module _ (r : Row) (v : List ℕ) (k t : ℕ) (es xs : List ℕ) where
   pub byte-arrival : (i b : ℕ) → fixed r k ≤ i → byteOf r k t xs i b ≡ cell t xs (i - fixed r k) b
   unfolding byteOf
   byte-arrival i b h = rw (le-ltb i (fixed r k) h)
+
+  -- the same, for the i-th of the arrivals
+  pub arrival-row : (i c : ℕ) → rowOf v r k es (fixed r k + i) c ≡ sentRow v r k (getD es i 0) c
+  arrival-row i c = row-arrival (fixed r k + i) c (omega arith) ∙ ap (λ (x : ℕ). sentRow v r k (getD es x 0) c) (add-sub-cancel-left (fixed r k) i)
+
+  pub arrival-byte : (i b : ℕ) → byteOf r k t xs (fixed r k + i) b ≡ cell t xs i b
+  arrival-byte i b = byte-arrival (fixed r k + i) b (omega arith) ∙ ap (λ (x : ℕ). cell t xs x b) (add-sub-cancel-left (fixed r k) i)
 
   isi-arrival : (i : ℕ) → i < length es → isiOf r k es i ≡ shifted (getD es i 0) k (r .k)
   unfolding isiOf
