@@ -6,7 +6,6 @@ use Prim.Native.Nat.{ℕ, _+_, _-_, _*_, _≤_, _<_}
 use native.Mathlib.Nat.{mul-le-mul, add-sub-cancel-left, add-mul, one-mul}
 use native.Mathlib.Decide.{decLt}
 use native.Mathlib.Omega.{arith}
-use borrow.Author.Tests.{lt-ltb}
 use lib.Arith.{digits-div, digits-mod}
 use lib.ListN.{length, getD, set, take, drop}
 use lib.Seq.{getD-drop}
@@ -20,6 +19,7 @@ use Rattle.headers.specs.Row.{Obeys, lOf}
 use Rattle.headers.specs.Shift.{shifted}
 use Rattle.headers.specs.declared.row.Row.{Row}
 use Rattle.headers.proofs.Bytes.{number-lt}
+use Rattle.headers.proofs.Shifts.{shifted-below}
 use Rattle.linear.specs.Bytes.{Bytes}
 use Rattle.encoding.specs.Encoded.{Encodes, encoded}
 use Rattle.encoding.proofs.Allowed.{Allowed, encodes-done}
@@ -109,8 +109,8 @@ module _ (v : List ℕ) (r : Row) (k t i from : ℕ) (C ys : List ℕ) (o : Obey
 
   octet-is : (x : ℕ) → x < t → encoded v r (shifted i k (r .k)) t C x ≡ sourceOctet v r t C (i * t + x)
   octet-is x l =
-      let s : shifted i k (r .k) ≡ i = simp (lt-ltb i k below) in
-      ap (λ (n : ℕ). encoded v r n t C x) s ∙ ap₂ (λ (n y : ℕ). encoded v r n t C y) (sym (digits-div i l)) (sym (digits-mod i l))
+      ap (λ (n : ℕ). encoded v r n t C x) (shifted-below k (r .k) i below)
+      ∙ ap₂ (λ (n y : ℕ). encoded v r n t C y) (sym (digits-div i l)) (sym (digits-mod i l))
 
   pub block-more : {xs zs : List ℕ} {a : Plain.Answer} → Written (sourceOctet v r t C) xs ys 0 (i * t) → Encodes v r k t i C (take (from + t - from) (drop from ys)) zs a
       → Written (sourceOctet v r t C) xs (splice ys from (from + t - from) zs) 0 ((i + 1) * t)

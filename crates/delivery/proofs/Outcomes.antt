@@ -5,7 +5,6 @@ use mathlib.Core.List.{List}
 use Prim.Native.Nat.{ℕ, _+_, _*_, _≤_, _<_}
 use native.Mathlib.Nat.{zero-add, mul-le-mul}
 use native.Mathlib.Omega.{arith}
-use borrow.Author.Tests.{lt-ltb}
 use lib.Arith.{digits-div, digits-mod, digits-lt}
 use lib.ListN.{length, getD}
 use Rattle.field.specs.Answer.{given, numberOf}
@@ -14,8 +13,8 @@ use Rattle.field.specs.declared.refusal.Refusal.{Refusal}
 use Rattle.field.specs.declared.refusal.Refusal.the-variants as Why
 use Rattle.field.proofs.Answers.{given-not-refused, refused-only, number-only}
 use Rattle.field.proofs.Writing.{written-once}
-use Rattle.headers.specs.Shift.{shifted}
 use Rattle.headers.specs.declared.row.Row.{Row}
+use Rattle.headers.proofs.Shifts.{shifted-below}
 use Rattle.linear.specs.System.{System}
 use Rattle.linear.proofs.AnswersBytes.{shortfall-bytes-once, solved-bytes-not-contradiction, open-bytes-not-contradiction, solved-bytes-not-open}
 use Rattle.linear.proofs.Bytes.{length-tabulate, getD-tabulate}
@@ -127,10 +126,9 @@ module _ (d : List ℕ) (p b : ℕ) (h : p < nOf d) (l : esiAt d (tOf d) p < kOf
   -- its equation is that of its ESI
   row-is : RowOf (tablesOf d) (rowAt d) (deliveredSystem d) (fixed (rowAt d) (kOf d) + p) (esiAt d (tOf d) p)
   row-is c u =
-      let e : shifted (esiAt d (tOf d) p) (kOf d) (rowAt d .k) ≡ esiAt d (tOf d) p = simp (lt-ltb (esiAt d (tOf d) p) (kOf d) l) in
       arrival-row (rowAt d) (tablesOf d) (kOf d) (tOf d) (esisOf d) (symbolsOf d) p c
       ∙ ap (λ (x : ℕ). sentRow (tablesOf d) (rowAt d) (kOf d) x c) esi-is
-      ∙ ap (λ (x : ℕ). encOf (tablesOf d) (rowAt d) x c) e
+      ∙ ap (λ (x : ℕ). encOf (tablesOf d) (rowAt d) x c) (shifted-below (kOf d) (rowAt d .k) (esiAt d (tOf d) p) l)
 
   -- and its symbol is what stands in the packet
   byte-is : deliveredSystem d .byte (fixed (rowAt d) (kOf d) + p) b ≡ getD d (packetAt (tOf d) p + 4 + b) 0

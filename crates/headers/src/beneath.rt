@@ -5,5 +5,6 @@ pub mod front;
 pub mod prime;
 pub mod rng;
 pub mod row;
+pub mod transmission;
 pub mod tuple;
 pub mod util;

@@ -5,6 +5,7 @@ ghost use lib.ListN.{length};
 ghost use Rattle.field.specs.Answer.{done};
 ghost use Rattle.headers.specs.Bytes.{Laid};
 ghost use Rattle.headers.specs.Headers.{InfoStored, checked, crowded, infoBytes, infoOutcome, readInfo};
+use crate::beneath;
 use crate::beneath::big_endian;
 use crate::beneath::util;
 use field::refusal;
@@ -30,18 +31,7 @@ pub fn deserialize(bytes: &[u8]) -> Answer
     if bytes.len() != 12 {
         return Answer::Refused(Refusal::WrongLength);
     }
-    let transfer_length = big_endian::get(bytes, 0, 5);
-    let symbol_size = big_endian::get(bytes, 6, 2) as u16;
-    let num_source_blocks = big_endian::get(bytes, 8, 1) as u8;
-    let num_sub_blocks = big_endian::get(bytes, 9, 2) as u16;
-    let symbol_alignment = big_endian::get(bytes, 11, 1) as u8;
-    Answer::Information(ObjectTransmissionInformation {
-        transfer_length,
-        symbol_size,
-        num_source_blocks,
-        num_sub_blocks,
-        symbol_alignment,
-    })
+    Answer::Information(beneath::transmission::get(bytes))
 }
 
 pub fn serialize(info: ObjectTransmissionInformation, store: &mut [u8]) -> refusal::Answer

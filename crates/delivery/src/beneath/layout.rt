@@ -6,6 +6,7 @@ ghost use Rattle.field.specs.Runs.{Written};
 ghost use Rattle.headers.specs.Bytes.{number};
 ghost use Rattle.delivery.specs.Layout.{entryAt, infoOf, rowAt};
 use headers::beneath::big_endian;
+use headers::beneath::transmission;
 use headers::row::Row;
 use headers::transmission::ObjectTransmissionInformation;
 
@@ -20,18 +21,7 @@ pub fn info(bytes: &[u8]) -> ObjectTransmissionInformation
     requires { ⌜ 12 ≤ length (now bytes) ⌝ }
     ensures { λ o. ⌜ o ≡ infoOf (now (bytes .entry)) ⌝ }
 {
-    let transfer_length = big_endian::get(bytes, 0, 5);
-    let symbol_size = big_endian::get(bytes, 6, 2) as u16;
-    let num_source_blocks = big_endian::get(bytes, 8, 1) as u8;
-    let num_sub_blocks = big_endian::get(bytes, 9, 2) as u16;
-    let symbol_alignment = big_endian::get(bytes, 11, 1) as u8;
-    ObjectTransmissionInformation {
-        transfer_length,
-        symbol_size,
-        num_source_blocks,
-        num_sub_blocks,
-        symbol_alignment,
-    }
+    transmission::get(bytes)
 }
 
 pub fn row(bytes: &[u8]) -> Row

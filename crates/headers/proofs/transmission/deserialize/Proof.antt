@@ -3,7 +3,6 @@
 use mathlib.Core.Path.{ap}
 use borrow.Author.Tests.{eq-eqb, ne-eqb}
 use Rattle.field.specs.Answer.{given}
-use Rattle.headers.proofs.Headers.{info-is}
 use borrow.Author.Needs.{needs}
 use Rattle.headers.proofs.transmission.deserialize.Statement.{statement}
 use Rattle.headers.proofs.transmission.deserialize.Tie as tie
@@ -14,48 +13,8 @@ returns c = rw (ne-eqb _ 12 (c .if1 .taken))
 get-requires : tie.Need-get-requires
 get-requires c κs = search needs
 
-get-requires-2 : tie.Need-get-requires-2
-get-requires-2 c κs = search needs
-
-cast-symbol-size : tie.Need-cast-symbol-size
-cast-symbol-size c = search needs
-
-get-requires-3 : tie.Need-get-requires-3
-get-requires-3 c κs = search needs
-
-cast-num-source-blocks : tie.Need-cast-num-source-blocks
-cast-num-source-blocks c = search needs
-
-get-requires-4 : tie.Need-get-requires-4
-get-requires-4 c κs = search needs
-
-cast-num-sub-blocks : tie.Need-cast-num-sub-blocks
-cast-num-sub-blocks c = search needs
-
-get-requires-5 : tie.Need-get-requires-5
-get-requires-5 c κs = search needs
-
-cast-symbol-alignment : tie.Need-cast-symbol-alignment
-cast-symbol-alignment c = search needs
-
 returns-2 : tie.Need-returns-2
-returns-2 c =
-    rw (eq-eqb _ 12 (c .before .before .before .before .before .if1 .left))
-    (ap given
-    (info-is (c .before .before .before .before .get .ensures .0) (c .before .before .before .get2 .ensures .0) (c .before .before .get3 .ensures .0) (c .before .get4 .ensures .0) (c .get5 .ensures .0)))
+returns-2 c = rw (eq-eqb _ 12 (c .before .if1 .left)) (ap given (c .get .ensures))
 
 pub deserialize-spec : {M : Type 1} → statement M
-deserialize-spec =
-    tie.close
-    (tie.spec
-    returns
-    get-requires
-    get-requires-2
-    cast-symbol-size
-    get-requires-3
-    cast-num-source-blocks
-    get-requires-4
-    cast-num-sub-blocks
-    get-requires-5
-    cast-symbol-alignment
-    returns-2)
+deserialize-spec = tie.close (tie.spec returns get-requires returns-2)
