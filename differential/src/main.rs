@@ -4,6 +4,7 @@ mod encoding;
 mod field;
 mod headers;
 mod matrix;
+mod receive;
 mod slab;
 mod solver;
 mod vectors;
@@ -20,7 +21,7 @@ fn main() {
         eprintln!("usage: run AREA [COUNT] [SEED]");
         std::process::exit(2);
     };
-    let areas: [(&str, fn(u64, u64) -> Found); 7] = [
+    let areas: [(&str, fn(u64, u64) -> Found); 8] = [
         ("field", field::run),
         ("headers", headers::run),
         ("matrix", matrix::run),
@@ -28,6 +29,7 @@ fn main() {
         ("constraints", constraints::run),
         ("encoding", encoding::run),
         ("solver", solver::run),
+        ("receive", receive::run),
     ];
     let chosen: Vec<_> = areas.iter().filter(|(name, _)| area == name || area == "all").collect();
     if chosen.is_empty() {

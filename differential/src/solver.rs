@@ -35,7 +35,7 @@ fn as_told(verdict: &Verdict, code: u32, before: &Stores, after: &Stores, [m, l,
 }
 
 /// What the harness makes of the system of a call, and its M, L and T. `fixed` are the rows whose symbols are 0.
-fn judged(row: Row, tables: &[u32], came: Arrived, fixed: &[Vec<u8>]) -> (Verdict, [usize; 3]) {
+pub fn judged(row: Row, tables: &[u32], came: Arrived, fixed: &[Vec<u8>]) -> (Verdict, [usize; 3]) {
     let (l, t) = (fixed[0].len(), usize::from(came.t));
     let mut equations: Vec<Vec<u8>> = fixed.iter().map(|r| [&r[..], &vec![0; t]].concat()).collect();
     let arrivals = came.esis.iter().zip(came.symbols.chunks(t)).map(|(e, symbol)| [&system::sent(row, tables, came.count, *e)[..], symbol].concat());
@@ -63,7 +63,7 @@ fn kind(verdict: &Verdict) -> &'static str {
 }
 
 /// `n` of the packets, in any order.
-fn some(random: &mut Random, mut packets: Vec<EncodingPacket>, n: usize) -> Vec<EncodingPacket> {
+pub fn some(random: &mut Random, mut packets: Vec<EncodingPacket>, n: usize) -> Vec<EncodingPacket> {
     for i in 0..n {
         let j = i + random.below((packets.len() - i) as u64) as usize;
         packets.swap(i, j);
