@@ -32,7 +32,7 @@ fn check(
     if k < 1 {
         return refusal::Answer::Refused(Refusal::BadCount);
     }
-    if k > r.k {
+    if k > r.kp {
         return refusal::Answer::Refused(Refusal::BadCount);
     }
     if esi >= 16777216 {
@@ -66,7 +66,7 @@ pub fn encode(
     let refusal::Answer::Done = may else {
         return may;
     };
-    let x = beneath::isi_of(r.k, k, Esi(esi));
+    let x = beneath::isi_of(r.kp, k, Esi(esi));
     let p1 = row::p1(r);
     let z = tuple::intermediate_tuple(tables, x, r.w, r.j, p1);
     // The generator gives no such walk.

@@ -6,6 +6,7 @@ ghost use Rattle.field.specs.Answer.{done};
 ghost use Rattle.slab.specs.Slab.{Reached, SymbolScaled, SymbolsAdded, SymbolsFused, Zeroed};
 ghost use Rattle.slab.specs.Slab.{located, paired, physical, placed, range, shown, strange, symbol};
 use crate::beneath::symbols;
+use field::beneath::runs;
 use field::refusal::Answer;
 use field::refusal::Refusal;
 
@@ -98,7 +99,7 @@ pub fn with_zeros(store: &mut [u8], count: usize, size: u16) -> Made
     if store.len() < n {
         return Made::Refused(Refusal::WrongLength);
     }
-    symbols::clear(store, n);
+    runs::clear(store, 0, n);
     Made::Slab(SymbolSlab { count, size })
 }
 

@@ -5,6 +5,18 @@ ghost use lib.ListN.{length};
 ghost use Rattle.field.specs.Runs.{Written, added, fused, scaled};
 use crate::doubling;
 
+// 0 at n places, from place `at` of dst on
+pub fn clear(dst: &mut [u8], at: usize, n: usize)
+    requires { ⌜ at + n ≤ length (now dst) ⌝ }
+    ensures { λ r. ⌜ Written (λ k. 0) (now (dst .entry)) (now (dst .exit)) at n ⌝ }
+{
+    let mut i = 0;
+    while i < n {
+        dst[at + i] = 0;
+        i += 1;
+    }
+}
+
 // dst + src, from place `at` of dst on
 pub fn add(dst: &mut [u8], at: usize, src: &[u8])
     requires { ⌜ at + length (now src) ≤ length (now dst) ⌝ }

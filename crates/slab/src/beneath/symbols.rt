@@ -55,15 +55,3 @@ pub fn fma(slab: &mut [u8], t: usize, to: usize, from: usize, c: u8)
         at += n;
     }
 }
-
-// The first n bytes become 0.
-pub fn clear(slab: &mut [u8], n: usize)
-    requires { ⌜ n ≤ length (now slab) ⌝ }
-    ensures { λ _. ⌜ Written (λ k. 0) (now (slab .entry)) (now (slab .exit)) 0 n ⌝ }
-{
-    let mut i = 0;
-    while i < n {
-        slab[i] = 0;
-        i += 1;
-    }
-}
