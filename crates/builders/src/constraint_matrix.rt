@@ -1,4 +1,5 @@
-// The two builders (constraint_matrix.rs of the crate). The ids are ISIs of any 32 bits. The HDPC rows, which logically replace the
+// Ported from constraint_matrix.rs of raptorq 2.0.1 (Apache-2.0) and changed.
+// The two builders. The ids are ISIs of any 32 bits. The HDPC rows, which logically replace the
 // rows S to S + H, come by a call of their own.
 ghost use mathlib.Core.Path.{_≡_};
 ghost use Prim.Native.Nat.{_+_, _≤_};

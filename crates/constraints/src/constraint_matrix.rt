@@ -1,4 +1,5 @@
-// What a caller asks of the constraint rows (constraint_matrix.rs of the crate).
+// Ported from constraint_matrix.rs of raptorq 2.0.1 (Apache-2.0) and changed.
+// What a caller asks of the constraint rows.
 ghost use Prim.Native.Nat.{_<_};
 ghost use Rattle.headers.specs.Told.{Told};
 ghost use Rattle.headers.specs.Tuples.{Bounds};

@@ -1,4 +1,4 @@
-// The symbol of an ESI from the intermediate symbols of its block (`enc` of the crate's encoder.rs).
+// The symbol of an ESI from the intermediate symbols of its block, written from RFC 6330 section 5.3.5.3 (`enc_into` in the crate's encoder.rs).
 ghost use mathlib.Core.Path.{_≡_};
 ghost use Rattle.field.specs.Answer.{done};
 ghost use Rattle.encoding.specs.Encoded.{Encodes, allowed};

@@ -1,4 +1,5 @@
-// Arithmetic of single octets, by value (octet.rs of the crate). No contract names a table.
+// Ported from octet.rs of raptorq 2.0.1 (Apache-2.0) and changed.
+// Arithmetic of single octets, by value. No contract names a table.
 ghost use mathlib.Core.Path.{_≡_};
 ghost use Rattle.field.specs.Octet.{plus, times};
 ghost use Rattle.field.specs.Answer.{divided, octetOutcome, raised};

@@ -1,4 +1,5 @@
-// Deg[v] of RFC 6330 section 5.3.5.2 (base.rs of the crate), for w LT symbols.
+// Ported from base.rs of raptorq 2.0.1 (Apache-2.0) and changed.
+// Deg[v] of RFC 6330 section 5.3.5.2, for w LT symbols.
 ghost use mathlib.Core.Path.{_≡_};
 ghost use Rattle.headers.specs.Number.{numberOutcome};
 ghost use Rattle.headers.specs.Degree.{degAnswer};

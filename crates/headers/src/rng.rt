@@ -1,4 +1,4 @@
-// Rand of RFC 6330 section 5.3.5.1 (rng.rs of the crate). The tables are lent: V0, V1, V2, V3 in order.
+// Rand, written from RFC 6330 section 5.3.5.1 and not from the crate. The tables are lent: V0, V1, V2, V3 in order.
 ghost use mathlib.Core.Path.{_≡_};
 ghost use Rattle.headers.specs.Number.{numberOutcome};
 ghost use Rattle.headers.specs.Rand.{randAnswer};

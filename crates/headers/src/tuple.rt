@@ -1,4 +1,5 @@
-// Tuple[K', X] of RFC 6330 section 5.3.5.4 (base.rs of the crate), of an internal symbol id X of any 32 bits.
+// Ported from base.rs of raptorq 2.0.1 (Apache-2.0) and changed.
+// Tuple[K', X] of RFC 6330 section 5.3.5.4, of an internal symbol id X of any 32 bits.
 ghost use mathlib.Core.Path.{_≡_};
 ghost use Rattle.headers.specs.Tuples.{tupleAnswer, tupleOutcome};
 use crate::beneath;

@@ -1,4 +1,5 @@
-// Symbols in lent bytes (symbol_slab.rs of the crate). A logical symbol i is the T bytes from place p · T on, where p is what
+// Ported from symbol_slab.rs of raptorq 2.0.1 (Apache-2.0) and changed.
+// Symbols in lent bytes. A logical symbol i is the T bytes from place p · T on, where p is what
 // the order says of i, and i itself if the order is empty. Each call is given the slab's numbers, its bytes and its order.
 ghost use mathlib.Core.Path.{_≡_};
 ghost use lib.ListN.{length};

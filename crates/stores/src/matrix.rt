@@ -1,4 +1,5 @@
-// The binary matrix (matrix.rs of the crate) over lent words: a row takes ceil(width / 64) of them, column c is bit c mod 64 of
+// Ported from matrix.rs of raptorq 2.0.1 (Apache-2.0) and changed.
+// The binary matrix over lent words: a row takes ceil(width / 64) of them, column c is bit c mod 64 of
 // its word c / 64. Row operations work on whole words; `get`, the counts and the lists never read a bit past the width.
 ghost use mathlib.Core.Path.{_≡_};
 ghost use Prim.Native.Nat.{_-_, _<_};

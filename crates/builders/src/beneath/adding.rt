@@ -1,3 +1,4 @@
+// Ported from constraint_matrix.rs of raptorq 2.0.1 (Apache-2.0) and changed.
 // Ones added to a binary matrix. The crate sets them; where no two meet, as the rules of a row see to, that is the same.
 ghost use Prim.Native.Nat.{ℕ, _+_, _-_, _%_, _<_, _≤_};
 ghost use lib.ListN.{length, getD};

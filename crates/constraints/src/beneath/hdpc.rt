@@ -1,3 +1,4 @@
+// Ported from constraint_matrix.rs of raptorq 2.0.1 (Apache-2.0) and changed.
 // The HDPC rows, row after row in a lent store, filled column by column from the right: each column is alpha times the next,
 // with two ones more. A product of MT with GAMMA would take n times as long.
 ghost use mathlib.Core.Path.{_≡_};

@@ -1,4 +1,4 @@
-// The octets' arithmetic on runs of bytes, place by place: all the run time of a decoder is spent here.
+// The octets' arithmetic on runs of bytes, place by place: every sum and product of symbols is made here.
 // Products are by doubling, which compiles to vector code; a table would be built anew in the frame of each call.
 ghost use Prim.Native.Nat.{_+_, _≤_};
 ghost use lib.ListN.{length};

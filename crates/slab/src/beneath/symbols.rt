@@ -1,3 +1,4 @@
+// Ported from symbol_slab.rs of raptorq 2.0.1 (Apache-2.0) and changed.
 // Symbols of t bytes at given places of one lent slab. The one symbol's part is lent on for writing; a source in the same
 // slab is copied out by chunks, since one slab is not lent twice.
 ghost use Prim.Native.Nat.{_+_, _≤_, _<_};
