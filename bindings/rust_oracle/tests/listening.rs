@@ -10,7 +10,7 @@ use spoonripple::Verdict;
 #[test]
 fn what_it_says_is_what_a_fresh_call_says() {
     let (mut random, mut seen) = (Random::new(2001), Seen::new());
-    for _ in 0..300 {
+    for _ in 0..600 {
         let (k, t) = (1 + random.below(40) as u32, 1 + random.below(3) as u16);
         let sender = Sender::new(k, t);
         let sent: Vec<_> = sender.packets(|_| false, k + 9).iter().map(parts).collect();

@@ -19,7 +19,7 @@ fn broadcast(random: &mut Random, encoder: &Encoder, damage: usize) -> Vec<Vec<u
     }
     for packet in &mut came {
         if random.below(damage) == 0 {
-            packet[4..].copy_from_slice(&random.damaged(&packet[4..].to_vec()));
+            *packet = [&packet[..4], &random.damaged(&packet[4..])].concat();
         }
     }
     came
@@ -31,7 +31,8 @@ fn it_says_of_each_block_what_a_fresh_call_says() {
     let (mut loaded, mut contradictions, mut open) = (0, 0, 0);
     for _ in 0..150 {
         let (t, z) = ([4, 8, 20][random.below(3)], 1 + random.below(4) as u8);
-        let object = random.bytes(usize::from(t) * (usize::from(z) + random.below(60)) - random.below(3));
+        let length = usize::from(t) * (usize::from(z) + random.below(60)) - random.below(3);
+        let object = random.bytes(length);
         let encoder = Encoder::new(&object, ObjectTransmissionInformation::new(object.len() as u64, t, z, 1, 1));
         let damage = [usize::MAX, 60, 10][random.below(3)];
         let came = broadcast(&mut random, &encoder, damage);
