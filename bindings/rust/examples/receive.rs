@@ -50,7 +50,8 @@ impl Station {
         self.packet_size
     }
 
-    /// Hears a packet, of a block that is solved too: it goes on comparing. One that cannot be of this object is dropped, since it must not stop the others.
+    /// Hears a packet, of a block that is solved too: it goes on comparing. One that cannot be of this object, or for which its block has no room, is
+    /// dropped: it must not stop the others.
     pub fn hear(&mut self, packet: &[u8]) {
         let Ok((id, symbol)) = read_packet(packet) else { return };
         let at = usize::from(id.source_block_number);

@@ -63,8 +63,8 @@ impl<'a> Block<'a> {
     /// [`solve`](Block::solve) tells. Refused, with nothing changed: 9 where the ESI is 2^24 or more, or 65,535 other packets are kept and the block is not
     /// solved; then 10 where the symbol is not t octets.
     ///
-    /// A comparison needs no room: a solved block with 65,535 packets still takes any number. It does not keep them, not even the one that makes it a
-    /// contradiction.
+    /// A comparison needs no room: a solved block with 65,535 packets, more than which the solver would refuse, still takes any number. It does not keep
+    /// them, not even the one that makes it a contradiction.
     pub fn take(&mut self, esi: u32, symbol: &[u8]) -> Result<(), Refusal> {
         isi(self.row, self.count, esi)?;
         let (again, full) = (self.keeps(esi, symbol), self.esis.len() == MOST_KEPT);
