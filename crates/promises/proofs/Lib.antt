@@ -8,3 +8,4 @@ pub mod Never
 pub mod Twice
 pub mod Fewer
 pub mod Reencoding
+pub mod Listening

@@ -27,7 +27,7 @@ use Rattle.promises.proofs.Exactly.{accepted, sound, solved-single}
 use Rattle.promises.proofs.Never.{encodes-sent, sent-fitting}
 
 -- only the first L·T octets of the intermediates are read
-sent-set : (v : List ℕ) (r : Row) (k t : ℕ) (C D : List ℕ) (e b : ℕ) → setIn r t C ≡ D → b < t → sent v r k t C e b ≡ sent v r k t D e b
+pub sent-set : (v : List ℕ) (r : Row) (k t : ℕ) (C D : List ℕ) (e b : ℕ) → setIn r t C ≡ D → b < t → sent v r k t C e b ≡ sent v r k t D e b
 sent-set v r k t C D e b q l = sum-same (lOf r) (λ c h. ap (times (encOf v r (shifted e k (r .kp)) c)) (at (c * t + b) (cell-lt t (lOf r) c b h l)))
   where
     at : (x : ℕ) → x < lOf r * t → getD C x 0 ≡ getD D x 0
