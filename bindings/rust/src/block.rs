@@ -17,8 +17,8 @@ const MOST_KEPT: usize = 65535;
 /// whatever comes. Solving anew over all that came would answer the same, as theorems of `docs/PROMISES.md` say:
 ///
 /// - With more packets, solved stays solved with the same octets or becomes a contradiction (`solved-then`).
-/// - An unequal packet leaves only the contradiction: a solved set re-encodes all that came (`reencodes`).
-/// - An equal one leaves only solved: the set fits it too, and where a set fits there is no contradiction (`never-contradiction`).
+/// - Where one of them is not the encoding of its ESI it is a contradiction (`unequal-contradicts`), since a solved set re-encodes all that came (`reencodes`).
+/// - Where all of them are it is solved, with the same octets (`equal-stays`), since where a set fits there is no contradiction (`never-contradiction`).
 /// - A contradiction stays one (`contradiction-then`).
 ///
 /// # What is kept
