@@ -5,15 +5,15 @@ use native.Mathlib.Omega.{arith}
 use lib.ListN.{length}
 use denote.Ref.{now}
 use Rattle.field.proofs.Refusals.{told, left}
-use Rattle.slab.proofs.Slabs.{Paired, paired-well, ends, apart}
+use Rattle.slab.proofs.Slabs.{AddressedPair, addressed-pair-well, ends, apart}
 use borrow.Author.Needs.{needs}
 use Rattle.slab.proofs.symbol_slab.add_assign.Statement.{statement}
 use Rattle.slab.proofs.symbol_slab.add_assign.Tie as tie
 
-well : (c : tie.After-enum-told) → let a = c .before .before .before .before .before .args in Paired (length (now (a .store))) (a .slab .count) (a .slab .size) (now (a .order)) (a .dest) (a .src)
+well : (c : tie.After-enum-told) → let a = c .before .before .before .before .before .args in AddressedPair (length (now (a .store))) (a .slab .count) (a .slab .size) (now (a .order)) (a .dest) (a .src)
 well c =
     let a = c .before .before .before .before .before .args in
-    paired-well (length (now (a .store))) (a .slab .count) (a .slab .size) (now (a .order)) (a .dest) (a .src)
+    addressed-pair-well (length (now (a .store))) (a .slab .count) (a .slab .size) (now (a .order)) (a .dest) (a .src)
     (told (c .before .before .pair .result) (c .before .before .pair .ensures) (c .enum-told .given .1))
 
 pair-requires : tie.Need-pair-requires

@@ -5,15 +5,15 @@ use native.Mathlib.Omega.{arith}
 use lib.ListN.{length}
 use denote.Ref.{now}
 use Rattle.field.proofs.Refusals.{told, left}
-use Rattle.slab.proofs.Slabs.{Placed, placed-well, ends}
+use Rattle.slab.proofs.Slabs.{Addressed, addressed-well, ends}
 use borrow.Author.Needs.{needs}
 use Rattle.slab.proofs.symbol_slab.mulassign_scalar.Statement.{statement}
 use Rattle.slab.proofs.symbol_slab.mulassign_scalar.Tie as tie
 
-well : (c : tie.After-enum-told) → let a = c .before .before .before .before .before .args in Placed (length (now (a .store))) (a .slab .count) (a .slab .size) (now (a .order)) (a .dest)
+well : (c : tie.After-enum-told) → let a = c .before .before .before .before .before .args in Addressed (length (now (a .store))) (a .slab .count) (a .slab .size) (now (a .order)) (a .dest)
 well c =
     let a = c .before .before .before .before .before .args in
-    placed-well (length (now (a .store))) (a .slab .count) (a .slab .size) (now (a .order)) (a .dest)
+    addressed-well (length (now (a .store))) (a .slab .count) (a .slab .size) (now (a .order)) (a .dest)
     (told (c .before .before .place .result) (c .before .before .place .ensures) (c .enum-told .given .1))
 
 place-requires : tie.Need-place-requires
