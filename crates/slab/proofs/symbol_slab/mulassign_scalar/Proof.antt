@@ -10,7 +10,8 @@ use borrow.Author.Needs.{needs}
 use Rattle.slab.proofs.symbol_slab.mulassign_scalar.Statement.{statement}
 use Rattle.slab.proofs.symbol_slab.mulassign_scalar.Tie as tie
 
-well : (c : tie.After-enum-told) → let a = c .before .before .before .before .before .args in Addressed (length (now (a .store))) (a .slab .count) (a .slab .size) (now (a .order)) (a .dest)
+well : (c : tie.After-enum-told) → let a = c .before .before .before .before .before .args in
+    Addressed (length (now (a .store))) (a .slab .count) (a .slab .size) (now (a .order)) (a .dest)
 well c =
     let a = c .before .before .before .before .before .args in
     addressed-well (length (now (a .store))) (a .slab .count) (a .slab .size) (now (a .order)) (a .dest)
@@ -44,7 +45,12 @@ same-length : tie.Need-same-length
 same-length c = search needs
 
 returns-2 : tie.Need-returns-2
-returns-2 c = (sym (told (c .before .before .before .before .before .before .before .before .place .result) (c .before .before .before .before .before .before .before .before .place .ensures) (c .before .before .before .before .before .before .enum-told .given .1)), rw (c .before .before .before .physical-index .ensures) at (c .before .before .scale .ensures))
+returns-2 c =
+    let at = c .before .before .before .before .before .before in
+    let p = at .before .before .place in (
+      sym (told (p .result) (p .ensures) (at .enum-told .given .1)),
+      rw (c .before .before .before .physical-index .ensures) at (c .before .before .scale .ensures),
+    )
 
 pub mulassign-scalar-spec : {M : Type 1} → statement M
 mulassign-scalar-spec =
