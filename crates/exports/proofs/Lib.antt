@@ -1,3 +1,4 @@
 -- That the C interface's contracts settle answer and memory.
 pub mod Calls
 pub mod Solving
+pub mod Once

@@ -23,8 +23,8 @@ use Rattle.solver.specs.Display.{Place, arrived, rebuilt, anyLarge, located, wh
 use Rattle.solver.specs.System.{Solves, admitted, solvable, systemOf, equations}
 use Rattle.solver.specs.declared.solver.Solution.{Solution}
 use Rattle.solver.specs.declared.solver.Solution.the-variants.{Given, Refused}
-use Rattle.exports.specs.Call.{Called, Kept, code, fitting, listed, thenRoomed, roomed}
-use Rattle.exports.specs.Solving.{verdictCode, lacking, taken, Told, Solving, placeNumbers, displayed}
+use Rattle.exports.specs.Call.{Called, Kept, code, andRoom, listed, thenRoomed, roomed}
+use Rattle.exports.specs.Solving.{verdictCode, lacking, taken, SolvingBy, Solving, placeNumbers, displayed}
 use Rattle.exports.proofs.Calls.{called-as}
 
 -- the same values were written
@@ -32,9 +32,9 @@ kept-same : {f g h us vs : List ℕ} → us ≡ vs → Kept (given us) f g → K
 kept-same {f} {g} {h} {us} {vs} e u w = written-once (subst (λ (l : List ℕ). Kept (given l) f g) e u) w
 
 -- the answer, and all four stores, of a call that was taken and of one that was refused
-told-once : (p : Outcome (Unit {0})) (r : Row) (v : List ℕ) (k t : ℕ) (es xs a d o f a₁ d₁ o₁ f₁ a₂ d₂ o₂ f₂ : List ℕ) (m n : ℕ)
-    → Told p r v k t es xs a d o f a₁ d₁ o₁ f₁ m → Told p r v k t es xs a d o f a₂ d₂ o₂ f₂ n → (m ≡ n) × (a₁ ≡ a₂) × (d₁ ≡ d₂) × (o₁ ≡ o₂) × (f₁ ≡ f₂)
-told-once (given u) r v k t es xs a d o f a₁ d₁ o₁ f₁ a₂ d₂ o₂ f₂ m n h g =
+solving-by-once : (p : Outcome (Unit {0})) (r : Row) (v : List ℕ) (k t : ℕ) (es xs a d o f a₁ d₁ o₁ f₁ a₂ d₂ o₂ f₂ : List ℕ) (m n : ℕ)
+    → SolvingBy p r v k t es xs a d o f a₁ d₁ o₁ f₁ m → SolvingBy p r v k t es xs a d o f a₂ d₂ o₂ f₂ n → (m ≡ n) × (a₁ ≡ a₂) × (d₁ ≡ d₂) × (o₁ ≡ o₂) × (f₁ ≡ f₂)
+solving-by-once (given u) r v k t es xs a d o f a₁ d₁ o₁ f₁ a₂ d₂ o₂ f₂ m n h g =
     let e = means-once (lOf r) t (systemOf r v k t es xs) o o₁ o₂ (h .0) (g .0) (h .1 .1) (g .1 .1) in (
       h .2 ∙ ap verdictCode (e .0) ∙ sym (g .2),
       written-once (h .1 .2) (g .1 .2),
@@ -42,26 +42,26 @@ told-once (given u) r v k t es xs a d o f a₁ d₁ o₁ f₁ a₂ d₂ o₂ f�
       e .1,
       kept-same (ap lacking (e .0)) (h .3) (g .3),
     )
-told-once (refused e) r v k t es xs a d o f a₁ d₁ o₁ f₁ a₂ d₂ o₂ f₂ m n h g =
+solving-by-once (refused e) r v k t es xs a d o f a₁ d₁ o₁ f₁ a₂ d₂ o₂ f₂ m n h g =
     (h .0 ∙ sym (g .0), h .1 ∙ sym (g .1), h .2 ∙ sym (g .2), h .3 ∙ sym (g .3), h .4 ∙ sym (g .4))
 
 -- the contract settles them
 pub solving-once : (r : Row) (v : List ℕ) (k t : ℕ) (es xs a d o f a₁ d₁ o₁ f₁ a₂ d₂ o₂ f₂ : List ℕ) (m n : ℕ)
     → Solving r v k t es xs a d o f a₁ d₁ o₁ f₁ m → Solving r v k t es xs a d o f a₂ d₂ o₂ f₂ n → (m ≡ n) × (a₁ ≡ a₂) × (d₁ ≡ d₂) × (o₁ ≡ o₂) × (f₁ ≡ f₂)
 solving-once r v k t es xs a d o f a₁ d₁ o₁ f₁ a₂ d₂ o₂ f₂ m n =
-    told-once (taken r v k t es xs a d o f) r v k t es xs a d o f a₁ d₁ o₁ f₁ a₂ d₂ o₂ f₂ m n
+    solving-by-once (taken r v k t es xs a d o f) r v k t es xs a d o f a₁ d₁ o₁ f₁ a₂ d₂ o₂ f₂ m n
 
 -- a test that stands before both
-past : (b : Bool) (n : ℕ) (o p : Outcome (Unit {0})) → (b ≡ false → fitting o 0 1 ≡ p) → fitting (unless b n o) 0 1 ≡ unless b n p
+past : (b : Bool) (n : ℕ) (o p : Outcome (Unit {0})) → (b ≡ false → andRoom o 0 1 ≡ p) → andRoom (unless b n o) 0 1 ≡ unless b n p
 past true n o p h = refl
 past false n o p h = h refl
 
-eight : (b : Bool) (o : Outcome (Unit {0})) → fitting o 0 1 ≡ refused 8 → fitting (unless b 8 o) 0 1 ≡ refused 8
+eight : (b : Bool) (o : Outcome (Unit {0})) → andRoom o 0 1 ≡ refused 8 → andRoom (unless b 8 o) 0 1 ≡ refused 8
 eight true o h = refl
 eight false o h = h
 
 -- a call without room for rows is refused as one is that has room for them, and none for what follows
-pub no-rows : (r : Row) (tables k t n : ℕ) (large : Bool) (came a d o : ℕ) → fitting (solvable r tables k t n large came a d o) 0 1 ≡ solvable r tables k t n large came 0 d o
+pub no-rows : (r : Row) (tables k t n : ℕ) (large : Bool) (came a d o : ℕ) → andRoom (solvable r tables k t n large came a d o) 0 1 ≡ solvable r tables k t n large came 0 d o
 no-rows r tables k t n large came a d o =
     past (not (obeys r)) 4 _ _ (λ e. past (not (eqb tables 1024)) 5 _ _ (λ _.
     past large 9 _ _ (λ _. past (ltb k 1) 9 _ _ (λ _. past (ltb (r .kp) k) 9 _ _ (λ _. past (ltb 65535 n) 9 _ _ (λ _.
@@ -75,8 +75,8 @@ no-rows r tables k t n large came a d o =
         omega (arith, s .s-low, mul-le-mul {n₁ = 1} {m₁ = 1} {n₂ = equations r k n} {m₂ = lOf r} (omega (arith, s .s-low)) (omega (arith, s .s-low)))
 
 module _ (out : List ℕ) (p : Place) where
-  placed : ltb (length out) 2 ≡ false → given (placeNumbers p) ≡ thenRoomed out (given (placeNumbers p))
-  placed e = go p
+  place-roomed : ltb (length out) 2 ≡ false → given (placeNumbers p) ≡ thenRoomed out (given (placeNumbers p))
+  place-roomed e = go p
     where
       go : (p : Place) → given (placeNumbers p) ≡ thenRoomed out (given (placeNumbers p))
       go (arrived s) = sym (rw e refl)
@@ -100,7 +100,7 @@ module _ (out : List ℕ) (p : Place) where
   ends false true true e = refl
   ends false true false e = refl
   ends false false true e = refl
-  ends false false false e = placed e
+  ends false false false e = place-roomed e
 
 -- a slice without room, taken for a rebuilt store without room, is refused in 8's place
 pub display-room : (k t : ℕ) (es : List ℕ) (came built i : ℕ) (out : List ℕ)
@@ -132,11 +132,11 @@ told-as v w {f} {g} e h = (ap verdictCode (sym e), subst (λ (x : Verdict). Kept
 
 module _ (r : Row) (v : List ℕ) (k t : ℕ) (es xs a d o : List ℕ) where
   -- what `solve` answers that was lent no room for rows: 8 at the latest
-  never : (p : Outcome (Unit {0})) → fitting p 0 1 ≡ given tt → ⊥
+  never : (p : Outcome (Unit {0})) → andRoom p 0 1 ≡ given tt → ⊥
   never (given u) e = given-not-refused tt 8 (sym e)
   never (refused n) e = given-not-refused tt n (sym e)
 
-  without : fitting (admitted r v k t es xs a d o) 0 1 ≡ admitted r v k t es xs [] d o
+  without : andRoom (admitted r v k t es xs a d o) 0 1 ≡ admitted r v k t es xs [] d o
   without = no-rows r (length v) k t (length es) (anyLarge es) (length xs) (length a) (length d) (length o)
 
   pub rows-wanted : (a₁ d₁ o₁ : List ℕ) (y : Solution) (x : Verdict) → Solves r v k t es xs [] d o a₁ d₁ o₁ y → y ≡ Given x → ⊥
@@ -152,7 +152,7 @@ module _ (r : Row) (v : List ℕ) (k t : ℕ) (es xs a d o : List ℕ) where
     pub told-unroomed : length f < 1 → n ≡ code (taken r v k t es xs a d o []) → (a₁ ≡ a) × (d₁ ≡ d) × (o₁ ≡ o) → Solving r v k t es xs a d o f a₁ d₁ o₁ f n
     told-unroomed h q u = go (admitted r v k t es xs a d o) q
       where
-        go : (p : Outcome (Unit {0})) → n ≡ code (fitting p 0 1) → Told (fitting p (length f) 1) r v k t es xs a d o f a₁ d₁ o₁ f n
+        go : (p : Outcome (Unit {0})) → n ≡ code (andRoom p 0 1) → SolvingBy (andRoom p (length f) 1) r v k t es xs a d o f a₁ d₁ o₁ f n
         go (given x) e = rw (lt-ltb (length f) 1 h) (e, u .0, u .1, u .2, refl)
         go (refused m) e = (e, u .0, u .1, u .2, refl)
 
@@ -160,10 +160,10 @@ module _ (r : Row) (v : List ℕ) (k t : ℕ) (es xs a d o : List ℕ) where
         → (n ≡ verdictCode x) × Kept (given (lacking x)) f f₁ → Solving r v k t es xs a d o f a₁ d₁ o₁ f₁ n
     told-given f₁ y x l h e q =
         let u = subst (Solves r v k t es xs a d o a₁ d₁ o₁) e h in
-        subst (λ (p : Outcome (Unit {0})). Told (fitting p (length f) 1) r v k t es xs a d o f a₁ d₁ o₁ f₁ n) (sym (u .0))
+        subst (λ (p : Outcome (Unit {0})). SolvingBy (andRoom p (length f) 1) r v k t es xs a d o f a₁ d₁ o₁ f₁ n) (sym (u .0))
         (rw (le-ltb (length f) 1 l) (x, u, q .0, q .1))
 
     pub told-refused : (y : Solution) (w : Refusal) → Solves r v k t es xs a d o a₁ d₁ o₁ y → y ≡ Refused w → n ≡ numberOf w → Solving r v k t es xs a d o f a₁ d₁ o₁ f n
     told-refused y w h e q =
         let u = subst (Solves r v k t es xs a d o a₁ d₁ o₁) e h in
-        subst (λ (p : Outcome (Unit {0})). Told (fitting p (length f) 1) r v k t es xs a d o f a₁ d₁ o₁ f n) (sym (u .0)) (q, u .1, u .2, u .3, refl)
+        subst (λ (p : Outcome (Unit {0})). SolvingBy (andRoom p (length f) 1) r v k t es xs a d o f a₁ d₁ o₁ f n) (sym (u .0)) (q, u .1, u .2, u .3, refl)

@@ -1,12 +1,11 @@
 -- The C interface: what a call returns, and what it leaves in the slice that it was lent for its values.
 -- Assumes nothing.
 use mathlib.Core.Path.{_≡_}
-use mathlib.Core.Bool.{not}
 use mathlib.Core.List.{List, [], _∷_}
 use Prim.Native.Nat.{ℕ}
-use lib.Dec.{ltb, eqb}
+use lib.Dec.{ltb}
 use lib.ListN.{length, getD}
-use Rattle.field.specs.Answer.{Outcome, Left, given, refused, unless, before}
+use Rattle.field.specs.Answer.{Outcome, given, refused, unless, before}
 use Rattle.field.specs.Runs.{Written}
 
 -- 0 where the call was done, else the refusal's number
@@ -34,8 +33,8 @@ thenRoomed out (given vs) = roomed out (length vs) (given vs)
 thenRoomed out (refused n) = refused n
 
 -- what a call asks before all else: its limits, then room for n values
-abbrev pub fitting : Outcome (Unit {0}) → ℕ → ℕ → Outcome (Unit {0})
-fitting limits room n = before limits (unless (ltb room n) 8 (given tt))
+abbrev pub andRoom : Outcome (Unit {0}) → ℕ → ℕ → Outcome (Unit {0})
+andRoom limits room n = before limits (unless (ltb room n) 8 (given tt))
 
 -- an outcome, as the numbers that are handed over
 abbrev pub listed : {A : Type 0} → (A → List ℕ) → Outcome A → Outcome (List ℕ)
@@ -45,10 +44,12 @@ listed f (refused n) = refused n
 abbrev pub one : ℕ → List ℕ
 one x = x ∷ []
 
--- a call of which C is told only that it was done answered r and made ys of its store xs: P holds of ys where it was done
-pub record Did {A : Type 0} (o : Outcome A) (xs ys : List ℕ) (P : Type 0) (r : ℕ) : Type 0 where
-  pub answer : r ≡ code o
-  pub memory : Left o xs ys P
+-- A call of which C is told only whether it was done: the layer below answered `below` and made ys of the store, as its contract C says, and r is
+-- the number of that answer.
+pub record Reports {R A : Type 0} (of : R → Outcome A) (C : R → List ℕ → Type 0) (r : ℕ) (ys : List ℕ) : Type 0 where
+  pub below : R
+  pub meets : C below ys
+  pub number : r ≡ code (of below)
 
 -- what is told of a list besides: how many places were written
 abbrev pub many : List ℕ → List ℕ
@@ -58,7 +59,3 @@ many l = one (length l)
 pub record Listing (o : Outcome (List ℕ)) (list list' out out' : List ℕ) (r : ℕ) : Type 0 where
   pub places : Called o list list' r
   pub told : Called (listed many o) out out' r
-
--- two runs have to be of one length
-abbrev pub alike : List ℕ → List ℕ → Outcome (Unit {0})
-alike xs ys = unless (not (eqb (length xs) (length ys))) 8 (given tt)

@@ -2,3 +2,4 @@
 pub mod Call
 pub mod Numbers
 pub mod Solving
+pub mod Stores

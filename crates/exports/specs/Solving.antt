@@ -11,7 +11,7 @@ use Rattle.elimination.specs.declared.verdict.Verdict.the-variants.{Solved, Con
 use Rattle.solver.specs.Display.{Place, arrived, rebuilt, anyLarge, answerable, located}
 use Rattle.solver.specs.System.{Solves, admitted}
 use Rattle.solver.specs.declared.solver.Solution.the-variants.{Given}
-use Rattle.exports.specs.Call.{Kept, fitting, listed, one, roomed}
+use Rattle.exports.specs.Call.{Kept, andRoom, listed, one, roomed}
 
 -- 100 and 101 are the numbers of no refusal
 abbrev pub verdictCode : Verdict → ℕ
@@ -27,16 +27,16 @@ lacking (Open s) = one s
 
 -- the refusals of `solve`, then a slice f without room for the shortfall: 4, 5, 9, 10, 8
 abbrev pub taken : Row → List ℕ → ℕ → ℕ → (es xs a d o f : List ℕ) → Outcome (Unit {0})
-taken r v k t es xs a d o f = fitting (admitted r v k t es xs a d o) (length f) 1
+taken r v k t es xs a d o f = andRoom (admitted r v k t es xs a d o) (length f) 1
 
 -- A call that was taken or refused made a₁, d₁, o₁ and f₁ of the four stores that it was lent, and answered n.
-abbrev pub Told : Outcome (Unit {0}) → Row → List ℕ → ℕ → ℕ → (es xs a d o f a₁ d₁ o₁ f₁ : List ℕ) → ℕ → Type 0
-Told (given _) r v k t es xs a d o f a₁ d₁ o₁ f₁ n =
+abbrev pub SolvingBy : Outcome (Unit {0}) → Row → List ℕ → ℕ → ℕ → (es xs a d o f a₁ d₁ o₁ f₁ : List ℕ) → ℕ → Type 0
+SolvingBy (given _) r v k t es xs a d o f a₁ d₁ o₁ f₁ n =
     (x : Verdict) × Solves r v k t es xs a d o a₁ d₁ o₁ (Given x) × (n ≡ verdictCode x) × Kept (given (lacking x)) f f₁
-Told (refused e) r v k t es xs a d o f a₁ d₁ o₁ f₁ n = (n ≡ e) × (a₁ ≡ a) × (d₁ ≡ d) × (o₁ ≡ o) × (f₁ ≡ f)
+SolvingBy (refused e) r v k t es xs a d o f a₁ d₁ o₁ f₁ n = (n ≡ e) × (a₁ ≡ a) × (d₁ ≡ d) × (o₁ ≡ o) × (f₁ ≡ f)
 
 abbrev pub Solving : Row → List ℕ → ℕ → ℕ → (es xs a d o f a₁ d₁ o₁ f₁ : List ℕ) → ℕ → Type 0
-Solving r v k t es xs a d o f a₁ d₁ o₁ f₁ n = Told (taken r v k t es xs a d o f) r v k t es xs a d o f a₁ d₁ o₁ f₁ n
+Solving r v k t es xs a d o f a₁ d₁ o₁ f₁ n = SolvingBy (taken r v k t es xs a d o f) r v k t es xs a d o f a₁ d₁ o₁ f₁ n
 
 -- 0 for the arrivals, 1 for the rebuilt store, and where in it the symbol begins
 abbrev pub placeNumbers : Place → List ℕ

@@ -4,12 +4,10 @@ ghost use mathlib.Core.List.{[]};
 ghost use Prim.Native.Nat.{_≤_};
 ghost use lib.Dec.{ltb};
 ghost use lib.ListN.{length};
-ghost use Rattle.field.specs.Answer.{given};
+ghost use Rattle.field.specs.Answer.{done, given};
 ghost use Rattle.field.specs.Choice.{pick};
-ghost use Rattle.field.specs.Runs.{Written};
-ghost use Rattle.headers.specs.Shift.{shifted};
-ghost use Rattle.encoding.specs.Encoded.{encoded, encodes};
-ghost use Rattle.exports.specs.Call.{Called, Did, Kept, code};
+ghost use Rattle.encoding.specs.Encoded.{Encodes};
+ghost use Rattle.exports.specs.Call.{Called, Kept, Reports, code};
 ghost use Rattle.exports.specs.Numbers.{row};
 ghost use Rattle.exports.specs.Solving.{Solving, displayed, lacking, taken, verdictCode};
 use crate::values::hand;
@@ -38,8 +36,8 @@ pub extern "C" fn spoonripple_encode(
     intermediates: &[u8],
     out: &mut [u8],
 ) -> u32
-    ensures { λ r. ⌜ Did (encodes (now (tables .entry)) (row k j s h w) count t esi (length (now (intermediates .entry))) (length (now (out .entry)))) (now (out .entry)) (now (out .exit))
-        (Written (encoded (now (tables .entry)) (row k j s h w) (shifted esi count k) t (now (intermediates .entry))) (now (out .entry)) (now (out .exit)) 0 t) r ⌝ }
+    ensures { λ r. ⌜ Reports done (λ a ys. Encodes (now (tables .entry)) (row k j s h w) count t esi (now (intermediates .entry)) (now (out .entry)) ys a)
+        r (now (out .exit)) ⌝ }
 {
     let r = Row { kp: k, j, s, h, w };
     told(encoder::encode(r, tables, count, t, esi, intermediates, out))
@@ -72,7 +70,8 @@ fn unroomed(
     values: &mut [u8],
     out: &mut [u8],
 ) -> u32
-    ensures { λ n. ⌜ n ≡ code (taken r (now (tables .entry)) count t (now (esis .entry)) (now (symbols .entry)) (now (rows .entry)) (now (values .entry)) (now (out .entry)) []) ⌝ }
+    ensures { λ n. ⌜ n ≡ code (taken r (now (tables .entry)) count t (now (esis .entry)) (now (symbols .entry))
+        (now (rows .entry)) (now (values .entry)) (now (out .entry)) []) ⌝ }
     ensures { λ _. ⌜ (now (rows .exit) ≡ now (rows .entry)) × (now (values .exit) ≡ now (values .entry)) × (now (out .exit) ≡ now (out .entry)) ⌝ }
 {
     let none = &mut rows[0..0];
@@ -100,7 +99,9 @@ pub extern "C" fn spoonripple_solve(
     out: &mut [u8],
     shortfall: &mut [u64],
 ) -> u32
-    ensures { λ n. ⌜ Solving (row k j s h w) (now (tables .entry)) count t (now (esis .entry)) (now (symbols .entry)) (now (rows .entry)) (now (values .entry)) (now (out .entry)) (now (shortfall .entry)) (now (rows .exit)) (now (values .exit)) (now (out .exit)) (now (shortfall .exit)) n ⌝ }
+    ensures { λ n. ⌜ Solving (row k j s h w) (now (tables .entry)) count t (now (esis .entry)) (now (symbols .entry))
+        (now (rows .entry)) (now (values .entry)) (now (out .entry)) (now (shortfall .entry))
+        (now (rows .exit)) (now (values .exit)) (now (out .exit)) (now (shortfall .exit)) n ⌝ }
 {
     let r = Row { kp: k, j, s, h, w };
     if shortfall.len() < 1 {
@@ -133,7 +134,8 @@ pub extern "C" fn spoonripple_display(
     i: u32,
     out: &mut [u64],
 ) -> u32
-    ensures { λ r. ⌜ Called (displayed count t (now (esis .entry)) (length (now (arrivals .entry))) (length (now (rebuilt .entry))) i (now (out .entry))) (now (out .entry)) (now (out .exit)) r ⌝ }
+    ensures { λ r. ⌜ Called (displayed count t (now (esis .entry)) (length (now (arrivals .entry))) (length (now (rebuilt .entry))) i (now (out .entry)))
+        (now (out .entry)) (now (out .exit)) r ⌝ }
 {
     let built = measured(rebuilt.len(), out.len());
     match locate(count, t, esis, arrivals.len(), built, i) {

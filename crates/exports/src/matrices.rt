@@ -1,29 +1,23 @@
 // The binary matrix in lent words (document 01, 'Matrices and slab'): `height` rows of ceil(width / 64) words.
 ghost use mathlib.Core.Path.{_≡_};
-ghost use Prim.Native.Nat.{_+_, _-_, _/_, _%_};
-ghost use lib.ListN.{length, getD};
-ghost use Rattle.field.specs.Answer.{before, done, given};
-ghost use Rattle.field.specs.Runs.{Written, added, part};
-ghost use Rattle.stores.specs.Bits.{crossedFrom, withBit};
-ghost use Rattle.stores.specs.Rows.{Exchanged, packedTo};
-ghost use Rattle.field.specs.Ones.{ones};
-ghost use Rattle.stores.specs.Counting.{tally};
-ghost use Rattle.stores.specs.Matrix.{entry, limited, listable, oneOf, paired, rowAt, rowWords, shape, shrinkable, spanned, stored, summed, wordsOf};
-ghost use Rattle.exports.specs.Call.{Called, Did, Listing, fitting, listed, one};
-use crate::values::hand;
+ghost use lib.ListN.{length};
+ghost use Rattle.field.specs.Answer.{before, done};
+ghost use Rattle.stores.specs.Matrix.{Cleared, ColumnsSwapped, EntrySet, Resized, RowsAdded, RowsSwapped};
+ghost use Rattle.stores.specs.Matrix.{got, limited, matrixOutcome, onesOf, shape};
+ghost use Rattle.exports.specs.Call.{Called, Listing, Reports, andRoom, listed, one};
+ghost use Rattle.exports.specs.Stores.{onesAlong, onesDown, sized};
+use crate::values::hand_count;
+use crate::values::hand_octet;
 use crate::values::told;
-use field::octet;
+use crate::values::told_matrix;
 use field::refusal::Answer;
 use field::refusal::Refusal;
-use field::refusal::number;
 use stores::matrix;
-use stores::matrix::Count;
 use stores::matrix::DenseBinaryMatrix;
-use stores::matrix::Made;
 
 // A height or width out of range (2) comes before a store without room for one value (8), and that before what lies outside (6).
 fn fits(height: usize, width: usize, room: usize) -> Answer
-    ensures { λ r. ⌜ done r ≡ fitting (limited height width) room 1 ⌝ }
+    ensures { λ r. ⌜ done r ≡ andRoom (limited height width) room 1 ⌝ }
 {
     if height > 131070 {
         return Answer::Refused(Refusal::OutOfRange);
@@ -39,13 +33,9 @@ fn fits(height: usize, width: usize, room: usize) -> Answer
 
 #[no_mangle]
 pub extern "C" fn spoonripple_matrix_new(words: &mut [u64], height: usize, width: usize) -> u32
-    ensures { λ r. ⌜ Did (before (stored (length (now (words .entry))) (shape height width)) (given (shape height width))) (now (words .entry)) (now (words .exit))
-        (Written (λ k. 0) (now (words .entry)) (now (words .exit)) 0 (wordsOf (shape height width))) r ⌝ }
+    ensures { λ r. ⌜ Reports matrixOutcome (Cleared (now (words .entry)) height width) r (now (words .exit)) ⌝ }
 {
-    match matrix::new(words, height, width) {
-        Made::Matrix(_) => 0,
-        Made::Refused(why) => number(why),
-    }
+    told_matrix(matrix::new(words, height, width))
 }
 
 // 0 clears the entry, any other octet sets it.
@@ -58,9 +48,7 @@ pub extern "C" fn spoonripple_matrix_set(
     j: usize,
     value: u8,
 ) -> u32
-    ensures { λ r. ⌜ Did (paired (length (now (words .entry))) (shape height width) height i width j) (now (words .entry)) (now (words .exit))
-        (Written (λ k. withBit (getD (now (words .entry)) (rowAt (shape height width) i + j / 64) 0) (j % 64) (oneOf value))
-        (now (words .entry)) (now (words .exit)) (rowAt (shape height width) i + j / 64) 1) r ⌝ }
+    ensures { λ r. ⌜ Reports done (EntrySet (now (words .entry)) (shape height width) i j value) r (now (words .exit)) ⌝ }
 {
     let m = DenseBinaryMatrix { height, width };
     told(matrix::set(words, m, i, j, value))
@@ -75,21 +63,15 @@ pub extern "C" fn spoonripple_matrix_get(
     j: usize,
     out: &mut [u64],
 ) -> u32
-    ensures { λ r. ⌜ Called (before (fitting (limited height width) (length (now (out .entry))) 1)
-        (listed one (before (paired (length (now (words .entry))) (shape height width) height i width j) (given (entry (shape height width) (now (words .entry)) i j)))))
+    ensures { λ r. ⌜ Called (before (sized height width (now (out .entry))) (listed one (got (now (words .entry)) (shape height width) i j)))
         (now (out .entry)) (now (out .exit)) r ⌝ }
 {
     let fine = fits(height, width, out.len());
     let Answer::Done = fine else {
         return told(fine);
     };
-    match matrix::get(words, DenseBinaryMatrix { height, width }, i, j) {
-        octet::Answer::Octet(x) => {
-            let values = [x as u64];
-            hand(&values, out)
-        }
-        octet::Answer::Refused(why) => number(why),
-    }
+    let m = DenseBinaryMatrix { height, width };
+    hand_octet(matrix::get(words, m, i, j), out)
 }
 
 // Value: how many of the columns from `start` to `end` of row i are ones.
@@ -103,21 +85,15 @@ pub extern "C" fn spoonripple_matrix_count_ones(
     end: usize,
     out: &mut [u64],
 ) -> u32
-    ensures { λ r. ⌜ Called (before (fitting (limited height width) (length (now (out .entry))) 1)
-        (listed one (before (spanned (length (now (words .entry))) (shape height width) i start end) (given (tally (entry (shape height width) (now (words .entry)) i) start (end - start))))))
+    ensures { λ r. ⌜ Called (before (sized height width (now (out .entry))) (listed one (onesOf (now (words .entry)) (shape height width) i start end)))
         (now (out .entry)) (now (out .exit)) r ⌝ }
 {
     let fine = fits(height, width, out.len());
     let Answer::Done = fine else {
         return told(fine);
     };
-    match matrix::count_ones(words, DenseBinaryMatrix { height, width }, i, start, end) {
-        Count::Ones(n) => {
-            let values = [n as u64];
-            hand(&values, out)
-        }
-        Count::Refused(why) => number(why),
-    }
+    let m = DenseBinaryMatrix { height, width };
+    hand_count(matrix::count_ones(words, m, i, start, end), out)
 }
 
 // The rows from `start` to `end` with a one in column j, at the front of `list`. Value: how many.
@@ -132,9 +108,8 @@ pub extern "C" fn spoonripple_matrix_get_ones_in_column(
     list: &mut [u32],
     out: &mut [u64],
 ) -> u32
-    ensures { λ r. ⌜ Listing (before (fitting (limited height width) (length (now (out .entry))) 1)
-        (before (listable (length (now (words .entry))) (shape height width) (length (now (list .entry))) width j height start end)
-        (given (ones (λ i. entry (shape height width) (now (words .entry)) i j) start (end - start)))))
+    ensures { λ r. ⌜ Listing (before (sized height width (now (out .entry)))
+        (onesDown (now (words .entry)) (shape height width) j start end (length (now (list .entry)))))
         (now (list .entry)) (now (list .exit)) (now (out .entry)) (now (out .exit)) r ⌝ }
 {
     let fine = fits(height, width, out.len());
@@ -142,13 +117,8 @@ pub extern "C" fn spoonripple_matrix_get_ones_in_column(
         return told(fine);
     };
     let m = DenseBinaryMatrix { height, width };
-    match matrix::get_ones_in_column(words, m, j, start, end, list) {
-        Count::Ones(rows) => {
-            let values = [rows as u64];
-            hand(&values, out)
-        }
-        Count::Refused(why) => number(why),
-    }
+    let rows = matrix::get_ones_in_column(words, m, j, start, end, list);
+    hand_count(rows, out)
 }
 
 // The columns from `start` on with a one in row i, at the front of `list`. Value: how many.
@@ -162,9 +132,8 @@ pub extern "C" fn spoonripple_matrix_query_non_zero_columns(
     list: &mut [u32],
     out: &mut [u64],
 ) -> u32
-    ensures { λ r. ⌜ Listing (before (fitting (limited height width) (length (now (out .entry))) 1)
-        (before (listable (length (now (words .entry))) (shape height width) (length (now (list .entry))) height i width start width)
-        (given (ones (entry (shape height width) (now (words .entry)) i) start (width - start)))))
+    ensures { λ r. ⌜ Listing (before (sized height width (now (out .entry)))
+        (onesAlong (now (words .entry)) (shape height width) i start (length (now (list .entry)))))
         (now (list .entry)) (now (list .exit)) (now (out .entry)) (now (out .exit)) r ⌝ }
 {
     let fine = fits(height, width, out.len());
@@ -172,13 +141,8 @@ pub extern "C" fn spoonripple_matrix_query_non_zero_columns(
         return told(fine);
     };
     let m = DenseBinaryMatrix { height, width };
-    match matrix::query_non_zero_columns(words, m, i, start, list) {
-        Count::Ones(columns) => {
-            let values = [columns as u64];
-            hand(&values, out)
-        }
-        Count::Refused(why) => number(why),
-    }
+    let columns = matrix::query_non_zero_columns(words, m, i, start, list);
+    hand_count(columns, out)
 }
 
 #[no_mangle]
@@ -189,8 +153,7 @@ pub extern "C" fn spoonripple_matrix_swap_rows(
     i: usize,
     j: usize,
 ) -> u32
-    ensures { λ r. ⌜ Did (paired (length (now (words .entry))) (shape height width) height i height j) (now (words .entry)) (now (words .exit))
-        (Exchanged (now (words .entry)) (now (words .exit)) (rowAt (shape height width) i) (rowAt (shape height width) j) (rowWords width)) r ⌝ }
+    ensures { λ r. ⌜ Reports done (RowsSwapped (now (words .entry)) (shape height width) i j) r (now (words .exit)) ⌝ }
 {
     let m = DenseBinaryMatrix { height, width };
     told(matrix::swap_rows(words, m, i, j))
@@ -206,8 +169,7 @@ pub extern "C" fn spoonripple_matrix_swap_columns(
     j: usize,
     start: usize,
 ) -> u32
-    ensures { λ r. ⌜ Did (paired (length (now (words .entry))) (shape height width) width i width j) (now (words .entry)) (now (words .exit))
-        (Written (crossedFrom (now (words .entry)) (rowWords width) i j start) (now (words .entry)) (now (words .exit)) 0 (wordsOf (shape height width))) r ⌝ }
+    ensures { λ r. ⌜ Reports done (ColumnsSwapped (now (words .entry)) (shape height width) i j start) r (now (words .exit)) ⌝ }
 {
     let m = DenseBinaryMatrix { height, width };
     told(matrix::swap_columns(words, m, i, j, start))
@@ -222,9 +184,7 @@ pub extern "C" fn spoonripple_matrix_add_assign_rows(
     dest: usize,
     src: usize,
 ) -> u32
-    ensures { λ r. ⌜ Did (summed (length (now (words .entry))) (shape height width) dest src) (now (words .entry)) (now (words .exit))
-        (Written (added (now (words .entry)) (rowAt (shape height width) dest) (part (now (words .entry)) (rowAt (shape height width) src) (rowWords width)))
-        (now (words .entry)) (now (words .exit)) (rowAt (shape height width) dest) (rowWords width)) r ⌝ }
+    ensures { λ r. ⌜ Reports done (RowsAdded (now (words .entry)) (shape height width) dest src) r (now (words .exit)) ⌝ }
 {
     let m = DenseBinaryMatrix { height, width };
     told(matrix::add_assign_rows(words, m, dest, src))
@@ -239,12 +199,8 @@ pub extern "C" fn spoonripple_matrix_resize(
     new_height: usize,
     new_width: usize,
 ) -> u32
-    ensures { λ r. ⌜ Did (before (shrinkable (length (now (words .entry))) (shape height width) (shape «new_height» «new_width»)) (given (shape «new_height» «new_width»))) (now (words .entry)) (now (words .exit))
-        (Written (packedTo (now (words .entry)) (rowWords «new_width») (rowWords width)) (now (words .entry)) (now (words .exit)) 0 (wordsOf (shape «new_height» «new_width»))) r ⌝ }
+    ensures { λ r. ⌜ Reports matrixOutcome (Resized (now (words .entry)) (shape height width) «new_height» «new_width») r (now (words .exit)) ⌝ }
 {
     let m = DenseBinaryMatrix { height, width };
-    match matrix::resize(words, m, new_height, new_width) {
-        Made::Matrix(_) => 0,
-        Made::Refused(why) => number(why),
-    }
+    told_matrix(matrix::resize(words, m, new_height, new_width))
 }

@@ -1,11 +1,9 @@
 // Payload ids, transmission information, packets and partitions (RFC 6330, sections 3.2, 3.3.2, 3.3.3, 4.4.1.2 and 4.4.2).
 ghost use mathlib.Core.Path.{_≡_};
-ghost use mathlib.Core.List.{_++_};
-ghost use lib.ListN.{length};
-ghost use Rattle.headers.specs.Bytes.{Laid};
-ghost use Rattle.headers.specs.Headers.{infoChecked, idBytes, infoBytes, readId, readInfo, readPacket, roomForId, roomForInfo, roomForPacket};
+ghost use Rattle.field.specs.Answer.{done};
+ghost use Rattle.headers.specs.Headers.{IdStored, InfoStored, PacketStored, infoChecked, readId, readInfo, readPacket};
 ghost use Rattle.headers.specs.Partition.{partitioned};
-ghost use Rattle.exports.specs.Call.{Called, Did, code, listed, thenRoomed};
+ghost use Rattle.exports.specs.Call.{Called, Reports, code, listed, thenRoomed};
 ghost use Rattle.exports.specs.Numbers.{id, idNumbers, info, infoNumbers, packetNumbers};
 use crate::values::hand;
 use crate::values::told;
@@ -33,7 +31,7 @@ pub extern "C" fn spoonripple_payload_id_read(bytes: &[u8], out: &mut [u64]) -> 
 
 #[no_mangle]
 pub extern "C" fn spoonripple_payload_id_write(sbn: u8, esi: u32, store: &mut [u8]) -> u32
-    ensures { λ r. ⌜ Did (roomForId (id sbn esi) (length (now (store .entry)))) (now (store .entry)) (now (store .exit)) (Laid (idBytes (id sbn esi)) (now (store .entry)) (now (store .exit)) 0) r ⌝ }
+    ensures { λ r. ⌜ Reports done (λ a ys. IdStored (id sbn esi) (now (store .entry)) ys a) r (now (store .exit)) ⌝ }
 {
     let i = PayloadId {
         source_block_number: sbn,
@@ -71,7 +69,7 @@ pub extern "C" fn spoonripple_transmission_write(
     al: u8,
     store: &mut [u8],
 ) -> u32
-    ensures { λ r. ⌜ Did (roomForInfo (info f t z n al) (length (now (store .entry)))) (now (store .entry)) (now (store .exit)) (Laid (infoBytes (info f t z n al)) (now (store .entry)) (now (store .exit)) 0) r ⌝ }
+    ensures { λ r. ⌜ Reports done (λ a ys. InfoStored (info f t z n al) (now (store .entry)) ys a) r (now (store .exit)) ⌝ }
 {
     let o = ObjectTransmissionInformation {
         transfer_length: f,
@@ -122,7 +120,7 @@ pub extern "C" fn spoonripple_packet_read(bytes: &[u8], out: &mut [u64]) -> u32
 
 #[no_mangle]
 pub extern "C" fn spoonripple_packet_write(sbn: u8, esi: u32, bytes: &[u8], store: &mut [u8]) -> u32
-    ensures { λ r. ⌜ Did (roomForPacket (id sbn esi) (length (now (bytes .entry))) (length (now (store .entry)))) (now (store .entry)) (now (store .exit)) (Laid (idBytes (id sbn esi) ++ now (bytes .entry)) (now (store .entry)) (now (store .exit)) 0) r ⌝ }
+    ensures { λ r. ⌜ Reports done (λ a ys. PacketStored (id sbn esi) (now (bytes .entry)) (now (store .entry)) ys a) r (now (store .exit)) ⌝ }
 {
     let i = PayloadId {
         source_block_number: sbn,

@@ -1,29 +1,22 @@
 // Symbols in lent bytes (document 01, 'Matrices and slab'): `count` symbols of t bytes, an order of length 0 or the count.
-ghost use Prim.Native.Nat.{_*_};
 ghost use lib.Dec.{ltb};
-ghost use lib.ListN.{length};
-ghost use Rattle.field.specs.Answer.{given, unless};
-ghost use Rattle.field.specs.Runs.{Written, added, fused, scaled};
-ghost use Rattle.slab.specs.Slab.{located, paired, placed, start, symbol};
-ghost use Rattle.exports.specs.Call.{Called, Did, listed, roomed};
+ghost use Rattle.field.specs.Answer.{done, unless};
+ghost use Rattle.slab.specs.Slab.{SymbolScaled, SymbolsAdded, SymbolsFused, Zeroed, rangeOf, slabOutcome};
+ghost use Rattle.exports.specs.Call.{Called, Reports, listed, roomed};
 ghost use Rattle.exports.specs.Numbers.{bounds, slab};
 use crate::values::hand;
 use crate::values::told;
+use crate::values::told_slab;
 use field::refusal::number;
 use slab::symbol_slab;
-use slab::symbol_slab::Made;
 use slab::symbol_slab::Range;
 use slab::symbol_slab::SymbolSlab;
 
 #[no_mangle]
 pub extern "C" fn spoonripple_slab_with_zeros(store: &mut [u8], count: usize, t: u16) -> u32
-    ensures { λ r. ⌜ Did (unless (ltb 131070 count) 2 (unless (ltb (length (now (store .entry))) (count * t)) 8 (given (slab count t)))) (now (store .entry)) (now (store .exit))
-        (Written (λ k. 0) (now (store .entry)) (now (store .exit)) 0 (count * t)) r ⌝ }
+    ensures { λ r. ⌜ Reports slabOutcome (Zeroed (now (store .entry)) count t) r (now (store .exit)) ⌝ }
 {
-    match symbol_slab::with_zeros(store, count, t) {
-        Made::Slab(_) => 0,
-        Made::Refused(why) => number(why),
-    }
+    told_slab(symbol_slab::with_zeros(store, count, t))
 }
 
 // Values: where symbol i begins and ends among `len` bytes. A count out of range (2) comes before an `out` without room (8).
@@ -36,7 +29,7 @@ pub extern "C" fn spoonripple_slab_locate(
     i: usize,
     out: &mut [u64],
 ) -> u32
-    ensures { λ r. ⌜ Called (unless (ltb 131070 count) 2 (roomed (now (out .entry)) 2 (listed bounds (located len count t (now (order .entry)) i))))
+    ensures { λ r. ⌜ Called (unless (ltb 131070 count) 2 (roomed (now (out .entry)) 2 (listed bounds (rangeOf len count t (now (order .entry)) i))))
         (now (out .entry)) (now (out .exit)) r ⌝ }
 {
     if count > 131070 {
@@ -45,7 +38,7 @@ pub extern "C" fn spoonripple_slab_locate(
     if out.len() < 2 {
         return 8;
     }
-    match symbol_slab::locate(len, SymbolSlab { count, size: t }, order, i) {
+    match symbol_slab::get(len, SymbolSlab { count, size: t }, order, i) {
         Range::Bytes(start, end) => {
             let values = [start as u64, end as u64];
             hand(&values, out)
@@ -64,9 +57,7 @@ pub extern "C" fn spoonripple_slab_add_assign(
     dest: usize,
     src: usize,
 ) -> u32
-    ensures { λ r. ⌜ Did (paired (length (now (store .entry))) count t (now (order .entry)) dest src) (now (store .entry)) (now (store .exit))
-        (Written (added (now (store .entry)) (start (slab count t) (now (order .entry)) dest) (symbol (slab count t) (now (order .entry)) src (now (store .entry))))
-        (now (store .entry)) (now (store .exit)) (start (slab count t) (now (order .entry)) dest) t) r ⌝ }
+    ensures { λ r. ⌜ Reports done (SymbolsAdded (now (store .entry)) (slab count t) (now (order .entry)) dest src) r (now (store .exit)) ⌝ }
 {
     let slab = SymbolSlab { count, size: t };
     told(symbol_slab::add_assign(store, slab, order, dest, src))
@@ -82,9 +73,7 @@ pub extern "C" fn spoonripple_slab_mulassign_scalar(
     dest: usize,
     scalar: u8,
 ) -> u32
-    ensures { λ r. ⌜ Did (placed (length (now (store .entry))) count t (now (order .entry)) dest) (now (store .entry)) (now (store .exit))
-        (Written (scaled scalar (symbol (slab count t) (now (order .entry)) dest (now (store .entry))))
-        (now (store .entry)) (now (store .exit)) (start (slab count t) (now (order .entry)) dest) t) r ⌝ }
+    ensures { λ r. ⌜ Reports done (SymbolScaled (now (store .entry)) (slab count t) (now (order .entry)) dest scalar) r (now (store .exit)) ⌝ }
 {
     let slab = SymbolSlab { count, size: t };
     told(symbol_slab::mulassign_scalar(store, slab, order, dest, scalar))
@@ -101,9 +90,7 @@ pub extern "C" fn spoonripple_slab_fma(
     src: usize,
     scalar: u8,
 ) -> u32
-    ensures { λ r. ⌜ Did (paired (length (now (store .entry))) count t (now (order .entry)) dest src) (now (store .entry)) (now (store .exit))
-        (Written (fused (now (store .entry)) (start (slab count t) (now (order .entry)) dest) scalar (symbol (slab count t) (now (order .entry)) src (now (store .entry))))
-        (now (store .entry)) (now (store .exit)) (start (slab count t) (now (order .entry)) dest) t) r ⌝ }
+    ensures { λ r. ⌜ Reports done (SymbolsFused (now (store .entry)) (slab count t) (now (order .entry)) dest src scalar) r (now (store .exit)) ⌝ }
 {
     let slab = SymbolSlab { count, size: t };
     told(symbol_slab::fma(store, slab, order, dest, src, scalar))

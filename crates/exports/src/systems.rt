@@ -1,25 +1,19 @@
 // The rows of the linear system (RFC 6330, sections 5.3.3.3 and 5.3.5.3). A row of parameters is its five numbers K', J, S, H, W.
-ghost use mathlib.Core.Path.{_≡_};
-ghost use Prim.Native.Nat.{_+_, _*_};
-ghost use lib.ListN.{length};
-ghost use Rattle.field.specs.Runs.{Written};
-ghost use Rattle.headers.specs.Bytes.{Laid};
-ghost use Rattle.headers.specs.Row.{lOf};
+ghost use Prim.Native.Nat.{_+_};
+ghost use Rattle.field.specs.Answer.{done};
+ghost use Rattle.headers.specs.Number.{outcome as numberOutcome};
 ghost use Rattle.stores.specs.Matrix.{matrixOutcome};
-ghost use Rattle.constraints.specs.Answers.{hdpcRoom, indices, placesOf};
-ghost use Rattle.constraints.specs.Grid.{cells};
-ghost use Rattle.constraints.specs.Hdpc.{hdpcOf};
-ghost use Rattle.builders.specs.Built.{Built, buildable};
-ghost use Rattle.exports.specs.Call.{Did, code};
+ghost use Rattle.constraints.specs.Answers.{HdpcRows, Walked};
+ghost use Rattle.builders.specs.Built.{Builds};
+ghost use Rattle.exports.specs.Call.{Reports};
 ghost use Rattle.exports.specs.Numbers.{row, tuple};
 use crate::values::told;
+use crate::values::told_matrix;
+use crate::values::told_number;
 use builders::constraint_matrix;
 use constraints::constraint_matrix as rows;
-use field::refusal::number;
-use headers::number::Number;
 use headers::row::Row;
 use headers::tuple::Tuple;
-use stores::matrix::Made;
 
 // The d + d1 places of a tuple's walk, in walk order, at the front of `list`.
 #[no_mangle]
@@ -37,8 +31,7 @@ pub extern "C" fn spoonripple_enc_indices(
     b1: u32,
     list: &mut [u32],
 ) -> u32
-    ensures { λ r. ⌜ Did (indices (row k j s h w) (tuple d a b d1 a1 b1) (length (now (list .entry)))) (now (list .entry)) (now (list .exit))
-        (Laid (placesOf (row k j s h w) (tuple d a b d1 a1 b1)) (now (list .entry)) (now (list .exit)) 0) r ⌝ }
+    ensures { λ r. ⌜ Reports numberOutcome (λ n ys. Walked (row k j s h w) (tuple d a b d1 a1 b1) (now (list .entry)) ys n) r (now (list .exit)) ⌝ }
 {
     let r = Row { kp: k, j, s, h, w };
     let t = Tuple {
@@ -49,10 +42,7 @@ pub extern "C" fn spoonripple_enc_indices(
         a1,
         b1,
     };
-    match rows::enc_indices(r, t, list) {
-        Number::Value(_) => 0,
-        Number::Refused(why) => number(why),
-    }
+    told_number(rows::enc_indices(r, t, list))
 }
 
 // H rows of L octets, row after row, at the front of `store`.
@@ -66,19 +56,9 @@ pub extern "C" fn spoonripple_hdpc_rows(
     tables: &[u32],
     store: &mut [u8],
 ) -> u32
-    ensures { λ r. ⌜ Did (hdpcRoom (row k j s h w) (length (now (tables .entry))) (length (now (store .entry)))) (now (store .entry)) (now (store .exit))
-        (Written (cells (lOf (row k j s h w)) (hdpcOf (now (tables .entry)) (row k j s h w))) (now (store .entry)) (now (store .exit)) 0 (h * lOf (row k j s h w))) r ⌝ }
+    ensures { λ r. ⌜ Reports done (λ a ys. HdpcRows (now (tables .entry)) (row k j s h w) (now (store .entry)) ys a) r (now (store .exit)) ⌝ }
 {
     told(rows::generate_hdpc_rows(Row { kp: k, j, s, h, w }, tables, store))
-}
-
-fn built(m: Made) -> u32
-    ensures { λ r. ⌜ r ≡ code (matrixOutcome m) ⌝ }
-{
-    match m {
-        Made::Matrix(_) => 0,
-        Made::Refused(why) => number(why),
-    }
 }
 
 // Rows of bits: LDPC, H of 0, one for each ISI.
@@ -93,11 +73,11 @@ pub extern "C" fn spoonripple_constraint_matrix(
     isis: &[u32],
     words: &mut [u64],
 ) -> u32
-    ensures { λ r. ⌜ Did (buildable (row k j s h w) (length (now (tables .entry))) (length (now (isis .entry))) h k (length (now (words .entry)))) (now (words .entry)) (now (words .exit))
-        (Built (now (tables .entry)) (now (isis .entry)) (row k j s h w) h (now (words .entry)) (now (words .exit))) r ⌝ }
+    ensures { λ r. ⌜ Reports matrixOutcome (λ m ys. Builds (now (tables .entry)) (now (isis .entry)) (row k j s h w) h k (now (words .entry)) ys m)
+        r (now (words .exit)) ⌝ }
 {
     let r = Row { kp: k, j, s, h, w };
-    built(constraint_matrix::generate_constraint_matrix(r, tables, isis, words))
+    told_matrix(constraint_matrix::generate_constraint_matrix(r, tables, isis, words))
 }
 
 // Rows of bits: LDPC, one for each ISI.
@@ -112,9 +92,9 @@ pub extern "C" fn spoonripple_constraint_matrix_no_hdpc(
     isis: &[u32],
     words: &mut [u64],
 ) -> u32
-    ensures { λ r. ⌜ Did (buildable (row k j s h w) (length (now (tables .entry))) (length (now (isis .entry))) 0 (k + h) (length (now (words .entry)))) (now (words .entry)) (now (words .exit))
-        (Built (now (tables .entry)) (now (isis .entry)) (row k j s h w) 0 (now (words .entry)) (now (words .exit))) r ⌝ }
+    ensures { λ r. ⌜ Reports matrixOutcome (λ m ys. Builds (now (tables .entry)) (now (isis .entry)) (row k j s h w) 0 (k + h) (now (words .entry)) ys m)
+        r (now (words .exit)) ⌝ }
 {
     let r = Row { kp: k, j, s, h, w };
-    built(constraint_matrix::generate_constraint_matrix_no_hdpc(r, tables, isis, words))
+    told_matrix(constraint_matrix::generate_constraint_matrix_no_hdpc(r, tables, isis, words))
 }

@@ -7,12 +7,13 @@ ghost use Rattle.headers.specs.Tuples.{answer as tupleAnswer};
 ghost use Rattle.exports.specs.Call.{Called, listed, one, thenRoomed};
 ghost use Rattle.exports.specs.Numbers.{row, sizeNumbers, tupleNumbers};
 use crate::values::hand;
+use crate::values::hand_number;
+use crate::values::hand_one;
 use field::refusal::number;
 use headers::deg;
 use headers::ids;
 use headers::ids::Esi;
 use headers::ids::Shifted;
-use headers::number::Number;
 use headers::rng;
 use headers::row;
 use headers::row::Checked;
@@ -24,26 +25,14 @@ use headers::tuple::Generated;
 pub extern "C" fn spoonripple_rand(tables: &[u32], y: u32, i: u8, m: u32, out: &mut [u64]) -> u32
     ensures { λ r. ⌜ Called (thenRoomed (now (out .entry)) (listed one (randAnswer (now (tables .entry)) y i m))) (now (out .entry)) (now (out .exit)) r ⌝ }
 {
-    match rng::rand(tables, y, i, m) {
-        Number::Value(x) => {
-            let values = [x as u64];
-            hand(&values, out)
-        }
-        Number::Refused(why) => number(why),
-    }
+    hand_number(rng::rand(tables, y, i, m), out)
 }
 
 #[no_mangle]
 pub extern "C" fn spoonripple_deg(v: u32, w: u32, out: &mut [u64]) -> u32
     ensures { λ r. ⌜ Called (thenRoomed (now (out .entry)) (listed one (degreeAnswer v w))) (now (out .entry)) (now (out .exit)) r ⌝ }
 {
-    match deg::deg(v, w) {
-        Number::Value(x) => {
-            let values = [x as u64];
-            hand(&values, out)
-        }
-        Number::Refused(why) => number(why),
-    }
+    hand_number(deg::deg(v, w), out)
 }
 
 // Values: L, P, B, P1.
@@ -82,10 +71,7 @@ pub extern "C" fn spoonripple_isi(
     ensures { λ r. ⌜ Called (thenRoomed (now (out .entry)) (listed one (shiftAnswer (row k j s h w) count esi))) (now (out .entry)) (now (out .exit)) r ⌝ }
 {
     match ids::isi_of(Row { kp: k, j, s, h, w }, count, Esi(esi)) {
-        Shifted::Value(x) => {
-            let values = [ids::number(x) as u64];
-            hand(&values, out)
-        }
+        Shifted::Value(x) => hand_one(ids::number(x) as u64, out),
         Shifted::Refused(why) => number(why),
     }
 }
@@ -102,7 +88,8 @@ pub extern "C" fn spoonripple_tuple(
     isi: u32,
     out: &mut [u64],
 ) -> u32
-    ensures { λ r. ⌜ Called (thenRoomed (now (out .entry)) (listed tupleNumbers (tupleAnswer (row k j s h w) (now (tables .entry)) isi))) (now (out .entry)) (now (out .exit)) r ⌝ }
+    ensures { λ r. ⌜ Called (thenRoomed (now (out .entry)) (listed tupleNumbers (tupleAnswer (row k j s h w) (now (tables .entry)) isi)))
+        (now (out .entry)) (now (out .exit)) r ⌝ }
 {
     let x = ids::beneath::row_number(isi);
     match tuple::intermediate_tuple(Row { kp: k, j, s, h, w }, tables, x) {

@@ -1,10 +1,19 @@
 // How an answer reaches the caller.
 ghost use mathlib.Core.Path.{_≡_};
+ghost use mathlib.Core.List.{[], _∷_};
 ghost use lib.ListN.{length};
-ghost use Rattle.field.specs.Answer.{done, given};
-ghost use Rattle.exports.specs.Call.{Called, code, roomed};
+ghost use Rattle.field.specs.Answer.{done, given, outcome as octetOutcome};
+ghost use Rattle.headers.specs.Number.{outcome as numberOutcome};
+ghost use Rattle.slab.specs.Slab.{slabOutcome};
+ghost use Rattle.stores.specs.Matrix.{counted, matrixOutcome};
+ghost use Rattle.exports.specs.Call.{Called, code, listed, one, roomed, thenRoomed};
+use field::octet;
 use field::refusal::Answer;
 use field::refusal::number;
+use headers::number::Number;
+use slab::symbol_slab;
+use stores::matrix;
+use stores::matrix::Count;
 
 pub fn told(a: Answer) -> u32
     ensures { λ r. ⌜ r ≡ code (done a) ⌝ }
@@ -12,6 +21,34 @@ pub fn told(a: Answer) -> u32
     match a {
         Answer::Done => 0,
         Answer::Refused(why) => number(why),
+    }
+}
+
+// Whether it was done, of a call below that answers more.
+pub fn told_number(n: Number) -> u32
+    ensures { λ r. ⌜ r ≡ code (numberOutcome n) ⌝ }
+{
+    match n {
+        Number::Value(_) => 0,
+        Number::Refused(why) => number(why),
+    }
+}
+
+pub fn told_matrix(m: matrix::Made) -> u32
+    ensures { λ r. ⌜ r ≡ code (matrixOutcome m) ⌝ }
+{
+    match m {
+        matrix::Made::Matrix(_) => 0,
+        matrix::Made::Refused(why) => number(why),
+    }
+}
+
+pub fn told_slab(m: symbol_slab::Made) -> u32
+    ensures { λ r. ⌜ r ≡ code (slabOutcome m) ⌝ }
+{
+    match m {
+        symbol_slab::Made::Slab(_) => 0,
+        symbol_slab::Made::Refused(why) => number(why),
     }
 }
 
@@ -28,4 +65,39 @@ pub fn hand(values: &[u64], out: &mut [u64]) -> u32
         i += 1;
     }
     0
+}
+
+pub fn hand_one(x: u64, out: &mut [u64]) -> u32
+    ensures { λ r. ⌜ Called (roomed (now (out .entry)) 1 (given (x ∷ []))) (now (out .entry)) (now (out .exit)) r ⌝ }
+{
+    let values = [x];
+    hand(&values, out)
+}
+
+// The one value of an answer, or its refusal, which comes before 8.
+pub fn hand_octet(a: octet::Answer, out: &mut [u64]) -> u32
+    ensures { λ r. ⌜ Called (thenRoomed (now (out .entry)) (listed one (octetOutcome a))) (now (out .entry)) (now (out .exit)) r ⌝ }
+{
+    match a {
+        octet::Answer::Octet(x) => hand_one(x as u64, out),
+        octet::Answer::Refused(why) => number(why),
+    }
+}
+
+pub fn hand_number(n: Number, out: &mut [u64]) -> u32
+    ensures { λ r. ⌜ Called (thenRoomed (now (out .entry)) (listed one (numberOutcome n))) (now (out .entry)) (now (out .exit)) r ⌝ }
+{
+    match n {
+        Number::Value(x) => hand_one(x as u64, out),
+        Number::Refused(why) => number(why),
+    }
+}
+
+pub fn hand_count(c: Count, out: &mut [u64]) -> u32
+    ensures { λ r. ⌜ Called (thenRoomed (now (out .entry)) (listed one (counted c))) (now (out .entry)) (now (out .exit)) r ⌝ }
+{
+    match c {
+        Count::Ones(n) => hand_one(n as u64, out),
+        Count::Refused(why) => number(why),
+    }
 }

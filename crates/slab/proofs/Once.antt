@@ -3,25 +3,24 @@
 use mathlib.Core.Path.{_≡_, sym, ap, _∙_}
 use mathlib.Core.List.{List}
 use Prim.Native.Nat.{ℕ, _*_}
-use lib.ListN.{length}
 use Rattle.field.specs.Answer.{numberOf, done}
 use Rattle.field.specs.Runs.{added, fused, scaled}
 use Rattle.field.proofs.Answers.{given-only, given-not-refused, refused-only, number-only}
 use Rattle.field.proofs.Refusals.{Settled, settled-written, done-only}
-use Rattle.slab.specs.Slab.{made, range, located, shown, start, symbol, Zeroed, SymbolsAdded, SymbolScaled, SymbolsFused, placed}
+use Rattle.slab.specs.Slab.{slabOutcome, rangeOutcome, rangeOf, start, symbol, Zeroed, SymbolsAdded, SymbolScaled, SymbolsFused}
 use Rattle.slab.specs.declared.symbol_slab.SymbolSlab.{SymbolSlab}
 use Rattle.slab.specs.declared.symbol_slab.Made.{Made}
 use Rattle.slab.specs.declared.symbol_slab.Made.the-variants as Mades
 use Rattle.slab.specs.declared.symbol_slab.Range.{Range}
 use Rattle.slab.specs.declared.symbol_slab.Range.the-variants as Ranges
 
-pub made-only : (a b : Made) → made a ≡ made b → a ≡ b
-made-only (Mades.Slab s) (Mades.Slab u) e = ap Mades.Slab (given-only s u e)
-made-only (Mades.Slab s) (Mades.Refused w) e = absurd (given-not-refused s (numberOf w) e)
-made-only (Mades.Refused v) (Mades.Slab u) e = absurd (given-not-refused u (numberOf v) (sym e))
-made-only (Mades.Refused v) (Mades.Refused w) e = ap Mades.Refused (number-only v w (refused-only (numberOf v) (numberOf w) e))
+pub slab-only : (a b : Made) → slabOutcome a ≡ slabOutcome b → a ≡ b
+slab-only (Mades.Slab s) (Mades.Slab u) e = ap Mades.Slab (given-only s u e)
+slab-only (Mades.Slab s) (Mades.Refused w) e = absurd (given-not-refused s (numberOf w) e)
+slab-only (Mades.Refused v) (Mades.Slab u) e = absurd (given-not-refused u (numberOf v) (sym e))
+slab-only (Mades.Refused v) (Mades.Refused w) e = ap Mades.Refused (number-only v w (refused-only (numberOf v) (numberOf w) e))
 
-pub range-only : (a b : Range) → range a ≡ range b → a ≡ b
+pub range-only : (a b : Range) → rangeOutcome a ≡ rangeOutcome b → a ≡ b
 range-only (Ranges.Bytes s t) (Ranges.Bytes u v) e =
     let q = given-only (s, t) (u, v) e in
     ap (λ (r : ℕ × ℕ). Ranges.Bytes (r .0) (r .1)) q
@@ -30,16 +29,12 @@ range-only (Ranges.Refused v) (Ranges.Bytes s t) e = absurd (given-not-refused (
 range-only (Ranges.Refused v) (Ranges.Refused w) e = ap Ranges.Refused (number-only v w (refused-only (numberOf v) (numberOf w) e))
 
 pub with-zeros-once : (xs : List ℕ) (count size : ℕ) → Settled (Zeroed xs count size)
-with-zeros-once xs count size = settled-written made made-only _ xs (λ k. 0) 0 (count * size)
+with-zeros-once xs count size = settled-written slabOutcome slab-only _ xs (λ k. 0) 0 (count * size)
 
 module _ (xs : List ℕ) (slab : SymbolSlab) (order : List ℕ) where
-  pub locate-once : (len i : ℕ) (a b : Range) → range a ≡ located len (slab .count) (slab .size) order i
-      → range b ≡ located len (slab .count) (slab .size) order i → a ≡ b
-  locate-once len i a b p q = range-only a b (p ∙ sym q)
-
-  pub get-once : (i : ℕ) (ys zs : List ℕ) → ys ≡ shown (placed (length xs) (slab .count) (slab .size) order i) (symbol slab order i xs)
-      → zs ≡ shown (placed (length xs) (slab .count) (slab .size) order i) (symbol slab order i xs) → ys ≡ zs
-  get-once i ys zs p q = p ∙ sym q
+  pub get-once : (len i : ℕ) (a b : Range) → rangeOutcome a ≡ rangeOf len (slab .count) (slab .size) order i
+      → rangeOutcome b ≡ rangeOf len (slab .count) (slab .size) order i → a ≡ b
+  get-once len i a b p q = range-only a b (p ∙ sym q)
 
   pub add-assign-once : (dest src : ℕ) → Settled (SymbolsAdded xs slab order dest src)
   add-assign-once dest src = settled-written done done-only _ xs (added xs (start slab order dest) (symbol slab order src xs)) (start slab order dest) (slab .size)

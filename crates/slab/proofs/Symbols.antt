@@ -13,8 +13,8 @@ use Rattle.field.proofs.Writing.{written-is}
 use Rattle.field.proofs.Parts.{splice, part-length, part-is, part-at, written-part, written-then, copied}
 
 -- the bytes of a symbol, each with the byte of another at the same place
-abbrev pub mixed : (ℕ → ℕ → ℕ) → List ℕ → ℕ → List ℕ → ℕ → ℕ
-mixed g d at s k = g (getD d (at + k) 0) (getD s k 0)
+abbrev pub zipped : (ℕ → ℕ → ℕ) → List ℕ → ℕ → List ℕ → ℕ → ℕ
+zipped g d at s k = g (getD d (at + k) 0) (getD s k 0)
 
 -- n bytes at `at` of the part have room there
 pub room : (ys new : List ℕ) (to t at n : ℕ) → to + t ≤ length ys → at + n ≤ t → n ≤ length new
@@ -22,7 +22,7 @@ pub room : (ys new : List ℕ) (to t at n : ℕ) → to + t ≤ length ys → at
 room ys new to t at n h k l = omega (arith, length-take-le n new l, ap length (part-is ys to t), part-length ys to t h)
 
 -- a turn: n bytes were copied out of the slab, and worked into the symbol's part
-module _ (g : ℕ → ℕ → ℕ) (xs ys old new zs : List ℕ) (t to from at n : ℕ) (w : Written (mixed g xs to (part xs from t)) xs ys to at)
+module _ (g : ℕ → ℕ → ℕ) (xs ys old new zs : List ℕ) (t to from at n : ℕ) (w : Written (zipped g xs to (part xs from t)) xs ys to at)
     (a : Apart (length xs) t to from) (h : at + n ≤ t) where
   long : length ys ≡ length xs
   long = w .size
@@ -42,8 +42,8 @@ module _ (g : ℕ → ℕ → ℕ) (xs ys old new zs : List ℕ) (t to from at n
 
   pub turn : new ≡ take (length (take (from + at + n - (from + at)) (drop (from + at) ys))) (take (from + at + n - (from + at)) (drop (from + at) ys))
       ++ drop (length (take (from + at + n - (from + at)) (drop (from + at) ys))) old
-      → Written (mixed g (take (to + t - to) (drop to ys)) at (take n new)) (take (to + t - to) (drop to ys)) zs at (length (take n new))
-      → Written (mixed g xs to (part xs from t)) xs (splice ys to (to + t - to) zs) to (at + n)
+      → Written (zipped g (take (to + t - to) (drop to ys)) at (take n new)) (take (to + t - to) (drop to ys)) zs at (length (take n new))
+      → Written (zipped g xs to (part xs from t)) xs (splice ys to (to + t - to) zs) to (at + n)
   turn e u =
       let q = copied ys old new (from + at) n (omega (arith, long, a .from-in)) e in
       let l : length (take n new) ≡ n = ap length q ∙ part-length ys (from + at) n (omega (arith, long, a .from-in)) in

@@ -2,7 +2,7 @@
 -- Assumes nothing.
 use mathlib.Core.Path.{_≡_}
 use mathlib.Core.Bool.{Bool, not}
-use mathlib.Core.List.{List, []}
+use mathlib.Core.List.{List}
 use Prim.Native.Nat.{ℕ, _+_, _*_, _<_}
 use lib.Dec.{eqb, ltb, leb}
 use lib.ListN.{length, getD}
@@ -36,8 +36,8 @@ abbrev pub Reached : ℕ → ℕ → Type 0
 Reached n i = (n ≡ 0 → ⊥) → i < n
 
 -- the refusals of a call on symbol i: 2 for the count, 8 for the store and the order, 6 for i and for what the order says of it
-abbrev pub placed : ℕ → ℕ → ℕ → List ℕ → ℕ → Outcome (Unit {0})
-placed len count t order i =
+abbrev pub addressable : ℕ → ℕ → ℕ → List ℕ → ℕ → Outcome (Unit {0})
+addressable len count t order i =
     unless (ltb 131070 count) 2
     (unless (ltb len (count * t)) 8
     (unless (strange (length order) count) 8
@@ -46,48 +46,44 @@ placed len count t order i =
     (given tt)))))
 
 -- those of a call on two symbols: the same for each, and 7 if they are one
-abbrev pub paired : ℕ → ℕ → ℕ → List ℕ → ℕ → ℕ → Outcome (Unit {0})
-paired len count t order dest src =
-    before (placed len count t order dest)
-    (before (placed len count t order src)
+abbrev pub addressablePair : ℕ → ℕ → ℕ → List ℕ → ℕ → ℕ → Outcome (Unit {0})
+addressablePair len count t order dest src =
+    before (addressable len count t order dest)
+    (before (addressable len count t order src)
     (unless (eqb (physical order dest) (physical order src)) 7
     (given tt)))
 
 -- where symbol i begins and ends
-abbrev pub located : ℕ → ℕ → ℕ → List ℕ → ℕ → Outcome (ℕ × ℕ)
-located len count t order i = before (placed len count t order i) (given (physical order i * t, physical order i * t + t))
+abbrev pub rangeOf : ℕ → ℕ → ℕ → List ℕ → ℕ → Outcome (ℕ × ℕ)
+rangeOf len count t order i = before (addressable len count t order i) (given (physical order i * t, physical order i * t + t))
 
-abbrev pub range : Range → Outcome (ℕ × ℕ)
-range (Ranges.Bytes start end) = given (start, end)
-range (Ranges.Refused why) = refused (numberOf why)
+-- what the answers stand for
+abbrev pub rangeOutcome : Range → Outcome (ℕ × ℕ)
+rangeOutcome (Ranges.Bytes start end) = given (start, end)
+rangeOutcome (Ranges.Refused why) = refused (numberOf why)
 
--- what a call shows: nothing where it is refused
-abbrev pub shown : Outcome (Unit {0}) → List ℕ → List ℕ
-shown (given u) l = l
-shown (refused n) l = []
-
-abbrev pub made : Made → Outcome SymbolSlab
-made (Mades.Slab slab) = given slab
-made (Mades.Refused why) = refused (numberOf why)
+abbrev pub slabOutcome : Made → Outcome SymbolSlab
+slabOutcome (Mades.Slab slab) = given slab
+slabOutcome (Mades.Refused why) = refused (numberOf why)
 
 -- The calls. xs is the store at entry and ys at exit, r the answer.
 
 abbrev pub Zeroed : List ℕ → ℕ → ℕ → Made → List ℕ → Type 0
 Zeroed xs count t =
-    Does made (unless (ltb 131070 count) 2 (unless (ltb (length xs) (count * t)) 8 (given record { count = count; size = t }))) xs
+    Does slabOutcome (unless (ltb 131070 count) 2 (unless (ltb (length xs) (count * t)) 8 (given record { count = count; size = t }))) xs
     (λ ys. Written (λ k. 0) xs ys 0 (count * t))
 
 abbrev pub SymbolsAdded : List ℕ → SymbolSlab → List ℕ → ℕ → ℕ → Answer → List ℕ → Type 0
 SymbolsAdded xs slab order dest src =
-    Does done (paired (length xs) (slab .count) (slab .size) order dest src) xs
+    Does done (addressablePair (length xs) (slab .count) (slab .size) order dest src) xs
     (λ ys. Written (added xs (start slab order dest) (symbol slab order src xs)) xs ys (start slab order dest) (slab .size))
 
 abbrev pub SymbolScaled : List ℕ → SymbolSlab → List ℕ → ℕ → ℕ → Answer → List ℕ → Type 0
 SymbolScaled xs slab order dest c =
-    Does done (placed (length xs) (slab .count) (slab .size) order dest) xs
+    Does done (addressable (length xs) (slab .count) (slab .size) order dest) xs
     (λ ys. Written (scaled c (symbol slab order dest xs)) xs ys (start slab order dest) (slab .size))
 
 abbrev pub SymbolsFused : List ℕ → SymbolSlab → List ℕ → ℕ → ℕ → ℕ → Answer → List ℕ → Type 0
 SymbolsFused xs slab order dest src c =
-    Does done (paired (length xs) (slab .count) (slab .size) order dest src) xs
+    Does done (addressablePair (length xs) (slab .count) (slab .size) order dest src) xs
     (λ ys. Written (fused xs (start slab order dest) c (symbol slab order src xs)) xs ys (start slab order dest) (slab .size))

@@ -5,7 +5,7 @@ ghost use mathlib.Core.Path.{_≡_};
 ghost use lib.ListN.{length};
 ghost use Rattle.field.specs.Answer.{done};
 ghost use Rattle.slab.specs.Slab.{Reached, SymbolScaled, SymbolsAdded, SymbolsFused, Zeroed};
-ghost use Rattle.slab.specs.Slab.{located, paired, physical, placed, range, shown, strange, symbol};
+ghost use Rattle.slab.specs.Slab.{addressable, addressablePair, physical, rangeOf, rangeOutcome, strange};
 use crate::beneath::symbols;
 use field::beneath::runs;
 use field::refusal::Answer;
@@ -51,7 +51,7 @@ fn physical_index(order: &[u32], i: usize) -> usize
 
 // The refusals of a call on symbol i.
 fn place(len: usize, count: usize, t: u16, order: &[u32], i: usize) -> Answer
-    ensures { λ r. ⌜ done r ≡ placed len count t (now (order .entry)) i ⌝ }
+    ensures { λ r. ⌜ done r ≡ addressable len count t (now (order .entry)) i ⌝ }
 {
     if count > 131070 {
         return Answer::Refused(Refusal::OutOfRange);
@@ -73,7 +73,7 @@ fn place(len: usize, count: usize, t: u16, order: &[u32], i: usize) -> Answer
 
 // The refusals of a call on two symbols.
 fn pair(len: usize, count: usize, t: u16, order: &[u32], dest: usize, src: usize) -> Answer
-    ensures { λ r. ⌜ done r ≡ paired len count t (now (order .entry)) dest src ⌝ }
+    ensures { λ r. ⌜ done r ≡ addressablePair len count t (now (order .entry)) dest src ⌝ }
 {
     let first = place(len, count, t, order, dest);
     let Answer::Done = first else {
@@ -116,9 +116,9 @@ pub fn symbol_size(slab: SymbolSlab) -> u16
     slab.size
 }
 
-// Where symbol i lies among `len` bytes. It tells the refusals of `get`, which has no other way to.
-pub fn locate(len: usize, slab: SymbolSlab, order: &[u32], i: usize) -> Range
-    ensures { λ r. ⌜ range r ≡ located len (slab .count) (slab .size) (now (order .entry)) i ⌝ }
+// Where symbol i lies among `len` bytes. The bytes themselves are the caller's to take from there: a part that is handed out has no number for a refusal.
+pub fn get(len: usize, slab: SymbolSlab, order: &[u32], i: usize) -> Range
+    ensures { λ r. ⌜ rangeOutcome r ≡ rangeOf len (slab .count) (slab .size) (now (order .entry)) i ⌝ }
 {
     let may = place(len, slab.count, slab.size, order, i);
     match may {
@@ -128,17 +128,6 @@ pub fn locate(len: usize, slab: SymbolSlab, order: &[u32], i: usize) -> Range
             Range::Bytes(start, start + t)
         }
         Answer::Refused(why) => Range::Refused(why),
-    }
-}
-
-// The bytes of symbol i; the empty part at the front where `locate` refuses.
-pub fn get<'a>(store: &'a [u8], slab: SymbolSlab, order: &[u32], i: usize) -> &'a [u8]
-    ensures { λ r. ⌜ now r ≡ shown (placed (length (now (store .entry))) (slab .count) (slab .size) (now (order .entry)) i) (symbol slab (now (order .entry)) i (now (store .entry))) ⌝ }
-{
-    let at = locate(store.len(), slab, order, i);
-    match at {
-        Range::Bytes(start, end) => &store[start..end],
-        Range::Refused(_) => &store[0..0],
     }
 }
 

@@ -2,7 +2,7 @@
 -- Assumes nothing.
 use mathlib.Core.Bool.{Bool, true, false, not}
 use mathlib.Core.List.{List, [], _∷_}
-use Prim.Native.Nat.{ℕ, suc, _*_}
+use Prim.Native.Nat.{ℕ, suc, _+_, _*_}
 use lib.Dec.{eqb, leb, ltb}
 use lib.ListN.{length, take, drop}
 use Rattle.field.specs.Choice.{pick}
@@ -48,3 +48,13 @@ abbrev pub shown : ℕ → Outcome Place → List ℕ → List ℕ → List ℕ
 shown t (given (arrived s)) xs ys = take t (drop s xs)
 shown t (given (rebuilt s)) xs ys = take t (drop s ys)
 shown t (refused n) xs ys = []
+
+-- s bytes on from a place in memory, which is a block and an offset in it
+abbrev pub onFrom : ℕ × ℕ → ℕ → ℕ × ℕ
+onFrom a s = (a .0, s + a .1)
+
+-- where the bytes lie, of arrivals that begin at a and a rebuilt store that begins at b: a refusal shows the front of the arrivals
+abbrev pub shownAt : Outcome Place → ℕ × ℕ → ℕ × ℕ → ℕ × ℕ
+shownAt (given (arrived s)) a b = onFrom a s
+shownAt (given (rebuilt s)) a b = onFrom b s
+shownAt (refused n) a b = a

@@ -2,8 +2,9 @@
 ghost use mathlib.Core.Path.{_≡_};
 ghost use Prim.Native.Nat.{_≤_};
 ghost use lib.ListN.{length};
+ghost use denote.Ref.{ptr};
 ghost use Rattle.field.specs.Answer.{done, given};
-ghost use Rattle.solver.specs.Display.{answerable, located, placeOutcome, shown, standing, whereof};
+ghost use Rattle.solver.specs.Display.{answerable, located, placeOutcome, shown, shownAt, standing, whereof};
 use crate::beneath::esis;
 use field::refusal::Answer;
 use field::refusal::Refusal;
@@ -92,7 +93,10 @@ pub fn display<'a>(
     rebuilt: &'a [u8],
     i: u32,
 ) -> &'a [u8]
-    ensures { λ r. ⌜ now r ≡ shown t (located k t (now (esis .entry)) (length (now (arrivals .entry))) (length (now (rebuilt .entry))) i) (now (arrivals .entry)) (now (rebuilt .entry)) ⌝ }
+    ensures { λ r. ⌜ now r ≡ shown t (located k t (now (esis .entry)) (length (now (arrivals .entry))) (length (now (rebuilt .entry))) i)
+        (now (arrivals .entry)) (now (rebuilt .entry)) ⌝ }
+    ensures { λ r. ⌜ ptr r ≡ shownAt (located k t (now (esis .entry)) (length (now (arrivals .entry))) (length (now (rebuilt .entry))) i)
+        (ptr (arrivals .entry)) (ptr (rebuilt .entry)) ⌝ }
 {
     let n = t as usize;
     let found = locate(k, t, esis, arrivals.len(), rebuilt.len(), i);

@@ -1,7 +1,6 @@
 -- `exports::blocks::spoonripple_encode` meets its contract: it tells what `encode` answered.
 -- Assumes nothing.
 use borrow.Author.Needs.{needs}
-use Rattle.exports.proofs.Calls.{did-as}
 use Rattle.exports.proofs.blocks.spoonripple_encode.Statement.{statement}
 use Rattle.exports.proofs.blocks.spoonripple_encode.Tie as tie
 
@@ -17,7 +16,8 @@ same-length c = search needs
 returns : tie.Need-returns
 returns c =
     let w = c .before .before .before .encode in
-    did-as (w .ensures .answer) (w .ensures .memory) (c .told .ensures)
+    record { below = w .result; meets = w .ensures; number = c .told .ensures }
 
 pub spoonripple-encode-spec : {M : Type 1} → statement M
-spoonripple-encode-spec = tie.close (tie.spec encode-requires told-requires same-length returns)
+spoonripple-encode-spec =
+    tie.close (tie.spec encode-requires told-requires same-length returns)

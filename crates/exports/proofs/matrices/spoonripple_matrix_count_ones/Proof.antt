@@ -1,10 +1,10 @@
 -- `exports::matrices::spoonripple_matrix_count_ones` meets its contract: limits and room, then what `matrix::count_ones` answered.
 -- Assumes nothing.
-use mathlib.Core.Path.{refl, sym, ap, _∙_}
+use denote.Ref.{now}
+use Rattle.exports.proofs.Calls.{called-of, called-fit, called-unfit}
+use Rattle.exports.specs.Call.{one}
+use Rattle.stores.specs.Matrix.{onesOf, limited, shape}
 use borrow.Author.Needs.{needs}
-use Rattle.exports.proofs.Calls.{called-as, called-fit, called-unfit, called-handed, called-late}
-use Rattle.exports.specs.Call.{listed, one}
-use Rattle.stores.specs.Matrix.{counted, limited}
 use Rattle.exports.proofs.matrices.spoonripple_matrix_count_ones.Statement.{statement}
 use Rattle.exports.proofs.matrices.spoonripple_matrix_count_ones.Tie as tie
 
@@ -23,46 +23,25 @@ told-requires c κs = search needs
 returns : tie.Need-returns
 returns c =
     let f = c .before .before .before .fits2 in
-    called-unfit (f .result) (f .ensures) _ _ (c .before .enum-told2 .given .1) (c .told .ensures)
+    let a = c .before .before .before .before .before .before .args in
+    called-unfit (limited (a .height) (a .width)) _ (f .result) (f .ensures) _ _ (c .before .enum-told2 .given .1) (c .told .ensures)
 
 count-ones-requires : tie.Need-count-ones-requires
 count-ones-requires c κs = search needs
 
-enum-known-n : tie.Need-enum-known-n
-enum-known-n c = search needs
-
-slice-aggregate-hand : tie.Need-slice-aggregate-hand
-slice-aggregate-hand c = search needs
-
-hand-requires : tie.Need-hand-requires
-hand-requires c κs = search needs
-
-enum-known-why : tie.Need-enum-known-why
-enum-known-why c = search needs
-
-number-requires : tie.Need-number-requires
-number-requires c κs = search needs
+hand-count-requires : tie.Need-hand-count-requires
+hand-count-requires c κs = search needs
 
 same-length : tie.Need-same-length
 same-length c = search needs
 
 returns-2 : tie.Need-returns-2
 returns-2 c =
-    let found = c .before .before .before .before .before .before in
-    let first = found .before .before .before in
-    let f = first .before .before .fits2 in
-    let a = first .before .before .before .before .before .args in
-    called-fit (f .result) (f .ensures) _ (first .enum-told .given .1)
-    (called-as (listed one) (sym (ap counted (found .n .given .1)) ∙ found .before .before .count-ones .ensures)
-    (called-handed (limited (a .height) (a .width)) _ 1 (f .result) (f .ensures) (first .enum-told .given .1) (c .before .before .hand .ensures)))
-
-returns-3 : tie.Need-returns-3
-returns-3 c =
-    let found = c .before .before in
-    let first = found .before .before .before in
-    let f = first .before .before .fits2 in
-    called-fit (f .result) (f .ensures) _ (first .enum-told .given .1)
-    (called-late one (sym (ap counted (found .why .given .1)) ∙ found .before .before .count-ones .ensures) (c .number .ensures) refl)
+    let told = c .before .before .before .before .before in
+    let f = told .before .before .fits2 in
+    let a = told .before .before .before .before .before .args in
+    called-fit (limited (a .height) (a .width)) _ (f .result) (f .ensures) (onesOf (now (a .words)) (shape (a .height) (a .width)) (a .i) (a .start) (a .end)) (told .enum-told .given .1)
+    (called-of one (c .before .before .before .before .count-ones .ensures) (c .before .before .hand-count .ensures))
 
 pub spoonripple-matrix-count-ones-spec : {M : Type 1} → statement M
 spoonripple-matrix-count-ones-spec =
@@ -74,11 +53,6 @@ spoonripple-matrix-count-ones-spec =
     told-requires
     returns
     count-ones-requires
-    enum-known-n
-    slice-aggregate-hand
-    hand-requires
-    enum-known-why
-    number-requires
+    hand-count-requires
     same-length
-    returns-2
-    returns-3)
+    returns-2)

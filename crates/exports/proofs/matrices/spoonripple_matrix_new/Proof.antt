@@ -1,52 +1,23 @@
 -- `exports::matrices::spoonripple_matrix_new` meets its contract: it tells whether `matrix::new` was done.
 -- Assumes nothing.
-use mathlib.Core.Path.{sym, ap, _∙_}
 use borrow.Author.Needs.{needs}
-use Rattle.exports.proofs.Calls.{did-as}
-use Rattle.exports.specs.Call.{code}
-use Rattle.stores.specs.Matrix.{matrixOutcome}
-use Rattle.stores.specs.declared.matrix.Made.{Made}
 use Rattle.exports.proofs.matrices.spoonripple_matrix_new.Statement.{statement}
 use Rattle.exports.proofs.matrices.spoonripple_matrix_new.Tie as tie
 
 new-requires : tie.Need-new-requires
 new-requires c κs = search needs
 
-enum-told : tie.Need-enum-told
-enum-told c = search needs
-
-enum-known-why : tie.Need-enum-known-why
-enum-known-why c = search needs
-
-number-requires : tie.Need-number-requires
-number-requires c κs = search needs
+told-matrix-requires : tie.Need-told-matrix-requires
+told-matrix-requires c κs = search needs
 
 same-length : tie.Need-same-length
 same-length c = search needs
 
 returns : tie.Need-returns
 returns c =
-    let w = c .before .before .before .before .new in
-    did-as (w .ensures .0) (w .ensures .1) (sym (ap (λ (m : Made). code (matrixOutcome m)) (c .enum-told .given .1)))
-
-same-length-2 : tie.Need-same-length-2
-same-length-2 c = search needs
-
-returns-2 : tie.Need-returns-2
-returns-2 c =
-    let found = c .before .before in
-    let w = found .before .before .before .before .new in
-    did-as (w .ensures .0) (w .ensures .1) (c .number .ensures ∙ sym (ap (λ (m : Made). code (matrixOutcome m)) (found .why .given .1)))
+    let w = c .before .before .before .new in
+    record { below = w .result; meets = w .ensures; number = c .told-matrix .ensures }
 
 pub spoonripple-matrix-new-spec : {M : Type 1} → statement M
 spoonripple-matrix-new-spec =
-    tie.close
-    (tie.spec
-    new-requires
-    enum-told
-    enum-known-why
-    number-requires
-    same-length
-    returns
-    same-length-2
-    returns-2)
+    tie.close (tie.spec new-requires told-matrix-requires same-length returns)

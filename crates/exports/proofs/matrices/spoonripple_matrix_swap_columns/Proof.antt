@@ -1,7 +1,6 @@
 -- `exports::matrices::spoonripple_matrix_swap_columns` meets its contract: it tells what `matrix::swap_columns` answered.
 -- Assumes nothing.
 use borrow.Author.Needs.{needs}
-use Rattle.exports.proofs.Calls.{did-as}
 use Rattle.exports.proofs.matrices.spoonripple_matrix_swap_columns.Statement.{statement}
 use Rattle.exports.proofs.matrices.spoonripple_matrix_swap_columns.Tie as tie
 
@@ -17,7 +16,7 @@ same-length c = search needs
 returns : tie.Need-returns
 returns c =
     let w = c .before .before .before .swap-columns in
-    did-as (w .ensures .0) (w .ensures .1) (c .told .ensures)
+    record { below = w .result; meets = w .ensures; number = c .told .ensures }
 
 pub spoonripple-matrix-swap-columns-spec : {M : Type 1} → statement M
 spoonripple-matrix-swap-columns-spec =

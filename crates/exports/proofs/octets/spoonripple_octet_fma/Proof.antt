@@ -7,6 +7,9 @@ use Rattle.exports.proofs.octets.spoonripple_octet_fma.Tie as tie
 fma-requires : tie.Need-fma-requires
 fma-requires c κs = search needs
 
+cast-hand-one : tie.Need-cast-hand-one
+cast-hand-one c = search needs
+
 hand-one-requires : tie.Need-hand-one-requires
 hand-one-requires c κs = search needs
 
@@ -18,4 +21,4 @@ returns c = rw (← c .before .before .before .before .fma .ensures) (c .before 
 
 pub spoonripple-octet-fma-spec : {M : Type 1} → statement M
 spoonripple-octet-fma-spec =
-    tie.close (tie.spec fma-requires hand-one-requires same-length returns)
+    tie.close (tie.spec fma-requires cast-hand-one hand-one-requires same-length returns)

@@ -7,6 +7,9 @@ use Rattle.exports.proofs.octets.spoonripple_octet_mul.Tie as tie
 mul-requires : tie.Need-mul-requires
 mul-requires c κs = search needs
 
+cast-hand-one : tie.Need-cast-hand-one
+cast-hand-one c = search needs
+
 hand-one-requires : tie.Need-hand-one-requires
 hand-one-requires c κs = search needs
 
@@ -18,4 +21,4 @@ returns c = rw (← c .before .before .before .before .mul .ensures) (c .before 
 
 pub spoonripple-octet-mul-spec : {M : Type 1} → statement M
 spoonripple-octet-mul-spec =
-    tie.close (tie.spec mul-requires hand-one-requires same-length returns)
+    tie.close (tie.spec mul-requires cast-hand-one hand-one-requires same-length returns)

@@ -7,6 +7,9 @@ use Rattle.exports.proofs.octets.spoonripple_octet_sub.Tie as tie
 sub-requires : tie.Need-sub-requires
 sub-requires c κs = search needs
 
+cast-hand-one : tie.Need-cast-hand-one
+cast-hand-one c = search needs
+
 hand-one-requires : tie.Need-hand-one-requires
 hand-one-requires c κs = search needs
 
@@ -18,4 +21,4 @@ returns c = rw (← c .before .before .before .before .sub .ensures) (c .before 
 
 pub spoonripple-octet-sub-spec : {M : Type 1} → statement M
 spoonripple-octet-sub-spec =
-    tie.close (tie.spec sub-requires hand-one-requires same-length returns)
+    tie.close (tie.spec sub-requires cast-hand-one hand-one-requires same-length returns)

@@ -2,7 +2,7 @@
 -- Assumes nothing.
 use mathlib.Core.Path.{refl, sym, ap, _∙_}
 use borrow.Author.Needs.{needs}
-use Rattle.exports.proofs.Calls.{called-given, called-refused}
+use Rattle.exports.proofs.Calls.{called-of, called-refused}
 use Rattle.exports.specs.Numbers.{idNumbers}
 use Rattle.headers.specs.Headers.{idOutcome}
 use Rattle.exports.proofs.packets.spoonripple_payload_id_read.Statement.{statement}
@@ -38,7 +38,7 @@ same-length c = search needs
 returns : tie.Need-returns
 returns c =
     let found = c .before .before .before .before .before .before .before .before in
-    called-given idNumbers (sym (ap idOutcome (found .i .given .1)) ∙ found .before .before .deserialize .ensures) (c .before .before .hand .ensures)
+    called-of idNumbers (sym (ap idOutcome (found .i .given .1)) ∙ found .before .before .deserialize .ensures) (c .before .before .hand .ensures)
 
 returns-2 : tie.Need-returns-2
 returns-2 c =

@@ -1,7 +1,6 @@
 -- `exports::packets::spoonripple_transmission_write` meets its contract: it tells what `transmission::serialize` answered.
 -- Assumes nothing.
 use borrow.Author.Needs.{needs}
-use Rattle.exports.proofs.Calls.{did-as}
 use Rattle.exports.proofs.packets.spoonripple_transmission_write.Statement.{statement}
 use Rattle.exports.proofs.packets.spoonripple_transmission_write.Tie as tie
 
@@ -17,7 +16,7 @@ same-length c = search needs
 returns : tie.Need-returns
 returns c =
     let w = c .before .before .before .serialize in
-    did-as (w .ensures .answer) (w .ensures .memory) (c .told .ensures)
+    record { below = w .result; meets = w .ensures; number = c .told .ensures }
 
 pub spoonripple-transmission-write-spec : {M : Type 1} → statement M
 spoonripple-transmission-write-spec =

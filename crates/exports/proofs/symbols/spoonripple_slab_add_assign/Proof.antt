@@ -1,7 +1,6 @@
 -- `exports::symbols::spoonripple_slab_add_assign` meets its contract: it tells what `symbol_slab::add_assign` answered.
 -- Assumes nothing.
 use borrow.Author.Needs.{needs}
-use Rattle.exports.proofs.Calls.{did-as}
 use Rattle.exports.proofs.symbols.spoonripple_slab_add_assign.Statement.{statement}
 use Rattle.exports.proofs.symbols.spoonripple_slab_add_assign.Tie as tie
 
@@ -17,7 +16,7 @@ same-length c = search needs
 returns : tie.Need-returns
 returns c =
     let w = c .before .before .before .add-assign in
-    did-as (w .ensures .0) (w .ensures .1) (c .told .ensures)
+    record { below = w .result; meets = w .ensures; number = c .told .ensures }
 
 pub spoonripple-slab-add-assign-spec : {M : Type 1} → statement M
 spoonripple-slab-add-assign-spec =

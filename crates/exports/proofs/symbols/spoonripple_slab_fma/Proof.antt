@@ -1,7 +1,6 @@
 -- `exports::symbols::spoonripple_slab_fma` meets its contract: it tells what `symbol_slab::fma` answered.
 -- Assumes nothing.
 use borrow.Author.Needs.{needs}
-use Rattle.exports.proofs.Calls.{did-as}
 use Rattle.exports.proofs.symbols.spoonripple_slab_fma.Statement.{statement}
 use Rattle.exports.proofs.symbols.spoonripple_slab_fma.Tie as tie
 
@@ -17,7 +16,7 @@ same-length c = search needs
 returns : tie.Need-returns
 returns c =
     let w = c .before .before .before .fma in
-    did-as (w .ensures .0) (w .ensures .1) (c .told .ensures)
+    record { below = w .result; meets = w .ensures; number = c .told .ensures }
 
 pub spoonripple-slab-fma-spec : {M : Type 1} → statement M
 spoonripple-slab-fma-spec =

@@ -1,7 +1,6 @@
 -- `exports::symbols::spoonripple_slab_mulassign_scalar` meets its contract: it tells what `symbol_slab::mulassign_scalar` answered.
 -- Assumes nothing.
 use borrow.Author.Needs.{needs}
-use Rattle.exports.proofs.Calls.{did-as}
 use Rattle.exports.proofs.symbols.spoonripple_slab_mulassign_scalar.Statement.{statement}
 use Rattle.exports.proofs.symbols.spoonripple_slab_mulassign_scalar.Tie as tie
 
@@ -17,7 +16,7 @@ same-length c = search needs
 returns : tie.Need-returns
 returns c =
     let w = c .before .before .before .mulassign-scalar in
-    did-as (w .ensures .0) (w .ensures .1) (c .told .ensures)
+    record { below = w .result; meets = w .ensures; number = c .told .ensures }
 
 pub spoonripple-slab-mulassign-scalar-spec : {M : Type 1} → statement M
 spoonripple-slab-mulassign-scalar-spec =

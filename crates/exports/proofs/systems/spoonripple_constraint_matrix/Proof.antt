@@ -1,15 +1,14 @@
 -- `exports::systems::spoonripple_constraint_matrix` meets its contract: it tells whether the builder was done.
 -- Assumes nothing.
 use borrow.Author.Needs.{needs}
-use Rattle.exports.proofs.Calls.{did-as}
 use Rattle.exports.proofs.systems.spoonripple_constraint_matrix.Statement.{statement}
 use Rattle.exports.proofs.systems.spoonripple_constraint_matrix.Tie as tie
 
 generate-constraint-matrix-requires : tie.Need-generate-constraint-matrix-requires
 generate-constraint-matrix-requires c κs = search needs
 
-built-requires : tie.Need-built-requires
-built-requires c κs = search needs
+told-matrix-requires : tie.Need-told-matrix-requires
+told-matrix-requires c κs = search needs
 
 same-length : tie.Need-same-length
 same-length c = search needs
@@ -17,8 +16,8 @@ same-length c = search needs
 returns : tie.Need-returns
 returns c =
     let w = c .before .before .before .generate-constraint-matrix in
-    did-as (w .ensures .answer) (w .ensures .memory) (c .built .ensures)
+    record { below = w .result; meets = w .ensures; number = c .told-matrix .ensures }
 
 pub spoonripple-constraint-matrix-spec : {M : Type 1} → statement M
 spoonripple-constraint-matrix-spec =
-    tie.close (tie.spec generate-constraint-matrix-requires built-requires same-length returns)
+    tie.close (tie.spec generate-constraint-matrix-requires told-matrix-requires same-length returns)

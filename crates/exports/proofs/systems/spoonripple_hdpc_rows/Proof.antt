@@ -1,7 +1,6 @@
 -- `exports::systems::spoonripple_hdpc_rows` meets its contract: it tells what `generate_hdpc_rows` answered.
 -- Assumes nothing.
 use borrow.Author.Needs.{needs}
-use Rattle.exports.proofs.Calls.{did-as}
 use Rattle.exports.proofs.systems.spoonripple_hdpc_rows.Statement.{statement}
 use Rattle.exports.proofs.systems.spoonripple_hdpc_rows.Tie as tie
 
@@ -17,7 +16,7 @@ same-length c = search needs
 returns : tie.Need-returns
 returns c =
     let w = c .before .before .before .generate-hdpc-rows in
-    did-as (w .ensures .answer) (w .ensures .memory) (c .told .ensures)
+    record { below = w .result; meets = w .ensures; number = c .told .ensures }
 
 pub spoonripple-hdpc-rows-spec : {M : Type 1} → statement M
 spoonripple-hdpc-rows-spec =

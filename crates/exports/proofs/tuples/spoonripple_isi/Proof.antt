@@ -1,10 +1,10 @@
 -- `exports::tuples::spoonripple_isi` meets its contract: it hands over what `ids::isi_of` gives, or its refusal.
 -- Assumes nothing.
 use mathlib.Core.Path.{refl, sym, ap, _∙_}
-use borrow.Author.Needs.{needs}
-use Rattle.exports.proofs.Calls.{called-given, called-refused}
+use Rattle.exports.proofs.Calls.{called-of, called-refused}
 use Rattle.exports.specs.Call.{one}
 use Rattle.headers.specs.Shift.{isiOutcome}
+use borrow.Author.Needs.{needs}
 use Rattle.exports.proofs.tuples.spoonripple_isi.Statement.{statement}
 use Rattle.exports.proofs.tuples.spoonripple_isi.Tie as tie
 
@@ -17,14 +17,11 @@ enum-known-x c = search needs
 number-requires : tie.Need-number-requires
 number-requires c κs = search needs
 
-cast-t17 : tie.Need-cast-t17
-cast-t17 c = search needs
+cast-hand-one : tie.Need-cast-hand-one
+cast-hand-one c = search needs
 
-slice-aggregate-hand : tie.Need-slice-aggregate-hand
-slice-aggregate-hand c = search needs
-
-hand-requires : tie.Need-hand-requires
-hand-requires c κs = search needs
+hand-one-requires : tie.Need-hand-one-requires
+hand-one-requires c κs = search needs
 
 enum-known-why : tie.Need-enum-known-why
 enum-known-why c = search needs
@@ -37,8 +34,8 @@ same-length c = search needs
 
 returns : tie.Need-returns
 returns c =
-    let found = c .before .before .before .before .before .before .before in
-    called-given one (sym (ap isiOutcome (found .x .given .1)) ∙ found .before .before .isi-of .ensures) (rw (c .before .before .before .before .before .number .ensures) at (c .before .before .hand .ensures))
+    let found = c .before .before .before .before .before .before in
+    called-of one (sym (ap isiOutcome (found .x .given .1)) ∙ found .before .before .isi-of .ensures) (rw (c .before .before .before .before .number .ensures) at (c .before .before .hand-one .ensures))
 
 returns-2 : tie.Need-returns-2
 returns-2 c =
@@ -52,9 +49,8 @@ spoonripple-isi-spec =
     isi-of-requires
     enum-known-x
     number-requires
-    cast-t17
-    slice-aggregate-hand
-    hand-requires
+    cast-hand-one
+    hand-one-requires
     enum-known-why
     number-requires-2
     same-length

@@ -2,7 +2,7 @@
 -- Assumes nothing.
 use mathlib.Core.Path.{refl, sym, ap, _∙_}
 use borrow.Author.Needs.{needs}
-use Rattle.exports.proofs.Calls.{called-given, called-refused}
+use Rattle.exports.proofs.Calls.{called-of, called-refused}
 use Rattle.exports.specs.Numbers.{sizeNumbers}
 use Rattle.headers.specs.Row.{sizesOutcome}
 use Rattle.exports.proofs.tuples.spoonripple_row_check.Statement.{statement}
@@ -44,7 +44,7 @@ same-length c = search needs
 returns : tie.Need-returns
 returns c =
     let found = c .before .before .before .before .before .before .before .before .before .before in
-    called-given sizeNumbers (sym (ap sizesOutcome (found .z .given .1)) ∙ found .before .before .check .ensures) (c .before .before .hand .ensures)
+    called-of sizeNumbers (sym (ap sizesOutcome (found .z .given .1)) ∙ found .before .before .check .ensures) (c .before .before .hand .ensures)
 
 returns-2 : tie.Need-returns-2
 returns-2 c =

@@ -2,7 +2,7 @@
 -- Assumes nothing.
 use mathlib.Core.Path.{refl, sym, ap, _∙_}
 use borrow.Author.Needs.{needs}
-use Rattle.exports.proofs.Calls.{called-given, called-refused}
+use Rattle.exports.proofs.Calls.{called-of, called-refused}
 use Rattle.exports.specs.Numbers.{tupleNumbers}
 use Rattle.headers.specs.Tuples.{tupleOutcome}
 use Rattle.exports.proofs.tuples.spoonripple_tuple.Statement.{statement}
@@ -54,7 +54,7 @@ returns : tie.Need-returns
 returns c =
     let found = c .before .before .before .before .before .before .before .before .before .before .before .before in
     rw (← found .before .before .before .row-number .ensures)
-    (called-given tupleNumbers (sym (ap tupleOutcome (found .t .given .1)) ∙ found .before .before .intermediate-tuple .ensures) (c .before .before .hand .ensures))
+    (called-of tupleNumbers (sym (ap tupleOutcome (found .t .given .1)) ∙ found .before .before .intermediate-tuple .ensures) (c .before .before .hand .ensures))
 
 returns-2 : tie.Need-returns-2
 returns-2 c =

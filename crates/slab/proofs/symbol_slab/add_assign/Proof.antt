@@ -5,15 +5,16 @@ use native.Mathlib.Omega.{arith}
 use lib.ListN.{length}
 use denote.Ref.{now}
 use Rattle.field.proofs.Refusals.{told, left}
-use Rattle.slab.proofs.Slabs.{Paired, paired-well, ends, apart}
+use Rattle.slab.proofs.Slabs.{AddressedPair, addressed-pair-well, ends, apart}
 use borrow.Author.Needs.{needs}
 use Rattle.slab.proofs.symbol_slab.add_assign.Statement.{statement}
 use Rattle.slab.proofs.symbol_slab.add_assign.Tie as tie
 
-well : (c : tie.After-enum-told) → let a = c .before .before .before .before .before .args in Paired (length (now (a .store))) (a .slab .count) (a .slab .size) (now (a .order)) (a .dest) (a .src)
+well : (c : tie.After-enum-told) → let a = c .before .before .before .before .before .args in
+    AddressedPair (length (now (a .store))) (a .slab .count) (a .slab .size) (now (a .order)) (a .dest) (a .src)
 well c =
     let a = c .before .before .before .before .before .args in
-    paired-well (length (now (a .store))) (a .slab .count) (a .slab .size) (now (a .order)) (a .dest) (a .src)
+    addressed-pair-well (length (now (a .store))) (a .slab .count) (a .slab .size) (now (a .order)) (a .dest) (a .src)
     (told (c .before .before .pair .result) (c .before .before .pair .ensures) (c .enum-told .given .1))
 
 pair-requires : tie.Need-pair-requires
@@ -50,7 +51,13 @@ same-length : tie.Need-same-length
 same-length c = search needs
 
 returns-2 : tie.Need-returns-2
-returns-2 c = (sym (told (c .before .before .before .before .before .before .before .before .before .pair .result) (c .before .before .before .before .before .before .before .before .before .pair .ensures) (c .before .before .before .before .before .before .before .enum-told .given .1)), rw (c .before .before .before .physical-index2 .ensures, c .before .before .before .before .physical-index .ensures) at (c .before .before .add .ensures))
+returns-2 c =
+    let at = c .before .before .before .before .before .before .before in
+    let p = at .before .before .pair in
+    let i = c .before .before .before in (
+      sym (told (p .result) (p .ensures) (at .enum-told .given .1)),
+      rw (i .physical-index2 .ensures, i .before .physical-index .ensures) at (c .before .before .add .ensures),
+    )
 
 pub add-assign-spec : {M : Type 1} → statement M
 add-assign-spec =

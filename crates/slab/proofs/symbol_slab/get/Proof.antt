@@ -1,74 +1,61 @@
--- `slab::symbol_slab::get` meets its contract: the bytes that `locate` tells.
+-- `slab::symbol_slab::get` meets its contract.
 -- Assumes nothing.
-use mathlib.Core.Path.{sym, ap, _∙_}
-use Prim.Native.Nat.{_≤_}
+use mathlib.Core.Path.{sym, ap₂, _∙_}
+use Prim.Native.Nat.{_+_, _*_, ℕ}
 use native.Mathlib.Omega.{arith}
-use lib.ListN.{length}
 use denote.Ref.{now}
-use Rattle.slab.specs.Slab.{range}
-use Rattle.slab.proofs.Slabs.{located-well, shown-bytes, shown-none}
+use Rattle.field.specs.Answer.{given}
+use Rattle.field.proofs.Refusals.{went-on, stopped, told}
+use Rattle.slab.proofs.Slabs.{Addressed, addressed-well, ends}
 use borrow.Author.Needs.{needs}
 use Rattle.slab.proofs.symbol_slab.get.Statement.{statement}
 use Rattle.slab.proofs.symbol_slab.get.Tie as tie
 
-well : (c : tie.After-known-told) → let v = c .before .at .given .0 in (v .0 ≤ v .1 .0) × (v .1 .0 ≤ length (now (c .before .before .before .before .before .before .args .store)))
+well : (c : tie.After-enum-told) → let a = c .before .before .before .before .args in Addressed (a .len) (a .slab .count) (a .slab .size) (now (a .order)) (a .i)
 well c =
-    let a = c .before .before .before .before .before .before .args in
-    let v = c .before .at .given .0 in
-    located-well (length (now (a .store))) (a .slab .count) (a .slab .size) (now (a .order)) (a .i) (v .0) (v .1 .0)
-    (sym (c .before .before .before .locate .ensures) ∙ ap range (c .before .at .given .1))
+    let a = c .before .before .before .before .args in
+    addressed-well (a .len) (a .slab .count) (a .slab .size) (now (a .order)) (a .i) (told (c .before .before .place .result) (c .before .before .place .ensures) (c .enum-told .given .1))
 
-locate-requires : tie.Need-locate-requires
-locate-requires c κs = search needs
-
-enum-known-at : tie.Need-enum-known-at
-enum-known-at c = search needs
-
-sub-result : tie.Need-sub-result
-sub-result c = well c .0
-
-part-result-start : tie.Need-part-result-start
-part-result-start c = let w = well c in omega arith
-
-part-result-end : tie.Need-part-result-end
-part-result-end c = well c .1
+place-requires : tie.Need-place-requires
+place-requires c κs = search needs
 
 enum-told : tie.Need-enum-told
 enum-told c = search needs
 
-sub-result-2 : tie.Need-sub-result-2
-sub-result-2 c = search needs
+cast-t : tie.Need-cast-t
+cast-t c = search needs
 
-part-result-start-2 : tie.Need-part-result-start-2
-part-result-start-2 c = search needs
+physical-index-requires : tie.Need-physical-index-requires
+physical-index-requires c κs = well (c .before) .reached
 
-part-result-end-2 : tie.Need-part-result-end-2
-part-result-end-2 c = search needs
+mul-start : tie.Need-mul-start
+mul-start c = let e = ends (well (c .before .before)) in rw (c .physical-index .ensures) (omega arith)
+
+add-t10 : tie.Need-add-t10
+add-t10 c = let e = ends (well (c .before .before)) in rw (c .physical-index .ensures) (omega arith)
+
+enum-known-may : tie.Need-enum-known-may
+enum-known-may c = search needs
 
 returns : tie.Need-returns
 returns c =
-    let a = c .before .before .before .before .before .before .before .args in
-    shown-bytes (now (a .store)) (length (now (a .store))) (a .slab .count) (a .slab .size) (now (a .order)) (a .i)
-    (c .before .before .before .before .locate .result) (c .before .before .before .before .locate .ensures) _ _ (c .before .before .at .given .1)
+    let a = c .before .before .before .before .before .before .args in
+    ap₂ (λ (p q : ℕ). given (p * a .slab .size, q * a .slab .size + a .slab .size)) (c .physical-index .ensures) (c .physical-index .ensures)
+    ∙ sym (went-on (c .before .before .before .before .place .result) (c .before .before .before .before .place .ensures) _ (c .before .before .enum-told .given .1))
 
 returns-2 : tie.Need-returns-2
-returns-2 c =
-    let a = c .before .before .before .before .before .before .args in
-    shown-none (now (a .store)) (length (now (a .store))) (a .slab .count) (a .slab .size) (now (a .order)) (a .i)
-    (c .before .before .before .locate .result) (c .before .before .before .locate .ensures) _ _ (c .before .enum-told .given .1)
+returns-2 c = stopped (c .before .before .before .place .result) (c .before .before .before .place .ensures) _ _ (c .before .may .given .1)
 
 pub get-spec : {M : Type 1} → statement M
 get-spec =
     tie.close
     (tie.spec
-    locate-requires
-    enum-known-at
-    sub-result
-    part-result-start
-    part-result-end
+    place-requires
     enum-told
-    sub-result-2
-    part-result-start-2
-    part-result-end-2
+    cast-t
+    physical-index-requires
+    mul-start
+    add-t10
+    enum-known-may
     returns
     returns-2)

@@ -5,15 +5,16 @@ use native.Mathlib.Omega.{arith}
 use lib.ListN.{length}
 use denote.Ref.{now}
 use Rattle.field.proofs.Refusals.{told, left}
-use Rattle.slab.proofs.Slabs.{Placed, placed-well, ends}
+use Rattle.slab.proofs.Slabs.{Addressed, addressed-well, ends}
 use borrow.Author.Needs.{needs}
 use Rattle.slab.proofs.symbol_slab.mulassign_scalar.Statement.{statement}
 use Rattle.slab.proofs.symbol_slab.mulassign_scalar.Tie as tie
 
-well : (c : tie.After-enum-told) → let a = c .before .before .before .before .before .args in Placed (length (now (a .store))) (a .slab .count) (a .slab .size) (now (a .order)) (a .dest)
+well : (c : tie.After-enum-told) → let a = c .before .before .before .before .before .args in
+    Addressed (length (now (a .store))) (a .slab .count) (a .slab .size) (now (a .order)) (a .dest)
 well c =
     let a = c .before .before .before .before .before .args in
-    placed-well (length (now (a .store))) (a .slab .count) (a .slab .size) (now (a .order)) (a .dest)
+    addressed-well (length (now (a .store))) (a .slab .count) (a .slab .size) (now (a .order)) (a .dest)
     (told (c .before .before .place .result) (c .before .before .place .ensures) (c .enum-told .given .1))
 
 place-requires : tie.Need-place-requires
@@ -44,7 +45,12 @@ same-length : tie.Need-same-length
 same-length c = search needs
 
 returns-2 : tie.Need-returns-2
-returns-2 c = (sym (told (c .before .before .before .before .before .before .before .before .place .result) (c .before .before .before .before .before .before .before .before .place .ensures) (c .before .before .before .before .before .before .enum-told .given .1)), rw (c .before .before .before .physical-index .ensures) at (c .before .before .scale .ensures))
+returns-2 c =
+    let at = c .before .before .before .before .before .before in
+    let p = at .before .before .place in (
+      sym (told (p .result) (p .ensures) (at .enum-told .given .1)),
+      rw (c .before .before .before .physical-index .ensures) at (c .before .before .scale .ensures),
+    )
 
 pub mulassign-scalar-spec : {M : Type 1} → statement M
 mulassign-scalar-spec =

@@ -4,7 +4,7 @@ use mathlib.Core.Path.{sym, _∙_}
 use denote.Ref.{now}
 use borrow.Author.Tests.{eq-eqb, ne-eqb}
 use Rattle.field.proofs.Refusals.{went-on, stopped, told}
-use Rattle.slab.proofs.Slabs.{placed-well}
+use Rattle.slab.proofs.Slabs.{addressed-well}
 use borrow.Author.Needs.{needs}
 use Rattle.slab.proofs.symbol_slab.pair.Statement.{statement}
 use Rattle.slab.proofs.symbol_slab.pair.Tie as tie
@@ -39,12 +39,12 @@ returns-2 c =
 physical-index-requires : tie.Need-physical-index-requires
 physical-index-requires c κs =
     let a = c .before .before .before .before .before .before .before .args in
-    placed-well (a .len) (a .count) (a .t) (now (a .order)) (a .dest) (told (c .before .before .before .before .before .place .result) (c .before .before .before .before .before .place .ensures) (c .before .before .before .enum-told .given .1)) .reached
+    addressed-well (a .len) (a .count) (a .t) (now (a .order)) (a .dest) (told (c .before .before .before .before .before .place .result) (c .before .before .before .before .before .place .ensures) (c .before .before .before .enum-told .given .1)) .reached
 
 physical-index-requires-2 : tie.Need-physical-index-requires-2
 physical-index-requires-2 c κs =
     let a = c .before .before .before .before .before .before .before .before .args in
-    placed-well (a .len) (a .count) (a .t) (now (a .order)) (a .src) (told (c .before .before .before .place2 .result) (c .before .before .before .place2 .ensures) (c .before .enum-told3 .given .1)) .reached
+    addressed-well (a .len) (a .count) (a .t) (now (a .order)) (a .src) (told (c .before .before .before .place2 .result) (c .before .before .before .place2 .ensures) (c .before .enum-told3 .given .1)) .reached
 
 returns-3 : tie.Need-returns-3
 returns-3 c =

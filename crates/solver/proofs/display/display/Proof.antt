@@ -1,14 +1,14 @@
--- `solver::display::display` meets its contract: the bytes that `locate` tells.
+-- `solver::display::display` meets its contract: the bytes that `locate` tells, at their place in memory.
 -- Assumes nothing.
-use mathlib.Core.Path.{sym, ap, _∙_}
+use mathlib.Core.Path.{_≡_, sym, ap, _∙_}
 use Prim.Native.Nat.{ℕ, _+_, _≤_}
-use native.Mathlib.Nat.{add-sub-cancel-left}
+use native.Mathlib.Nat.{add-sub-cancel-left, zero-add}
 use native.Mathlib.Omega.{arith}
 use borrow.Author.Needs.{needs}
 use lib.ListN.{length, take, drop}
-use denote.Ref.{now}
+use denote.Ref.{now, ptr}
 use Rattle.solver.proofs.Displays.{arrived-in, rebuilt-in}
-use Rattle.solver.specs.Display.{placeOutcome, shown}
+use Rattle.solver.specs.Display.{onFrom, placeOutcome, shown, shownAt}
 use Rattle.solver.proofs.display.display.Statement.{statement}
 use Rattle.solver.proofs.display.display.Tie as tie
 
@@ -73,19 +73,27 @@ part-result-end-3 c = search needs
 returns : tie.Need-returns
 returns c =
     let a = c .before .before .before .before .before .before .before .before .args in
-    ap (λ (n : ℕ). take n (drop (c .before .before .found .given .0 .0) (now (a .arrivals)))) (add-sub-cancel-left (c .before .before .found .given .0 .0) (a .t))
-    ∙ ap (λ o. shown (a .t) o (now (a .arrivals)) (now (a .rebuilt))) (sym (ap placeOutcome (c .before .before .found .given .1)) ∙ c .before .before .before .before .locate .ensures)
+    let from = c .before .before .found .given .0 .0 in
+    let e = sym (ap placeOutcome (c .before .before .found .given .1)) ∙ c .before .before .before .before .locate .ensures in (
+      ap (λ (n : ℕ). take n (drop from (now (a .arrivals)))) (add-sub-cancel-left from (a .t)) ∙ ap (λ o. shown (a .t) o (now (a .arrivals)) (now (a .rebuilt))) e,
+      ap (λ o. shownAt o (ptr (a .arrivals)) (ptr (a .rebuilt))) e,
+    )
 
 returns-2 : tie.Need-returns-2
 returns-2 c =
     let a = c .before .before .before .before .before .before .before .before .args in
-    ap (λ (n : ℕ). take n (drop (c .before .before .found2 .given .0 .0) (now (a .rebuilt)))) (add-sub-cancel-left (c .before .before .found2 .given .0 .0) (a .t))
-    ∙ ap (λ o. shown (a .t) o (now (a .arrivals)) (now (a .rebuilt))) (sym (ap placeOutcome (c .before .before .found2 .given .1)) ∙ c .before .before .before .before .locate .ensures)
+    let from = c .before .before .found2 .given .0 .0 in
+    let e = sym (ap placeOutcome (c .before .before .found2 .given .1)) ∙ c .before .before .before .before .locate .ensures in (
+      ap (λ (n : ℕ). take n (drop from (now (a .rebuilt)))) (add-sub-cancel-left from (a .t)) ∙ ap (λ o. shown (a .t) o (now (a .arrivals)) (now (a .rebuilt))) e,
+      ap (λ o. shownAt o (ptr (a .arrivals)) (ptr (a .rebuilt))) e,
+    )
 
 returns-3 : tie.Need-returns-3
 returns-3 c =
     let a = c .before .before .before .before .before .before .before .args in
-    ap (λ o. shown (a .t) o (now (a .arrivals)) (now (a .rebuilt))) (sym (ap placeOutcome (c .before .enum-told .given .1)) ∙ c .before .before .before .locate .ensures)
+    let e = sym (ap placeOutcome (c .before .enum-told .given .1)) ∙ c .before .before .before .locate .ensures in
+    let front : onFrom (ptr (a .arrivals)) 0 ≡ ptr (a .arrivals) = ap (λ (n : ℕ). (ptr (a .arrivals) .0, n)) (zero-add (ptr (a .arrivals) .1)) in
+    (ap (λ o. shown (a .t) o (now (a .arrivals)) (now (a .rebuilt))) e, front ∙ ap (λ o. shownAt o (ptr (a .arrivals)) (ptr (a .rebuilt))) e)
 
 pub display-spec : {M : Type 1} → statement M
 display-spec =

@@ -1,0 +1,116 @@
+-- Each call of the C interface that is told only by a number is settled by its contract: two results that it allows, the answer and the later content of
+-- the store, are the same. Of the others `called-once`, `listing-once` (Calls) and `solving-once` (Solving) say so.
+-- Assumes nothing.
+use mathlib.Core.Path.{_≡_, sym, ap, _∙_, subst}
+use mathlib.Core.List.{List}
+use Prim.Native.Nat.{ℕ, _+_}
+use lib.ListN.{length}
+use Rattle.field.specs.Answer.{Outcome, Left, Does, done}
+use Rattle.field.specs.Runs.{added, fused, scaled}
+use Rattle.field.proofs.Refusals.{Settled, done-only, settled-written}
+use Rattle.headers.specs.Headers.{IdStored, InfoStored, PacketStored}
+use Rattle.headers.specs.Number.{outcome as numberOutcome}
+use Rattle.headers.proofs.Answers.{stores-only}
+use Rattle.slab.specs.Slab.{SymbolScaled, SymbolsAdded, SymbolsFused, Zeroed, slabOutcome}
+use Rattle.slab.proofs.Once as slabs
+use Rattle.stores.specs.Matrix.{Cleared, ColumnsSwapped, EntrySet, Resized, RowsAdded, RowsSwapped, matrixOutcome, shape}
+use Rattle.stores.proofs.Once as matrices
+use Rattle.constraints.specs.Answers.{HdpcRows, Walked}
+use Rattle.constraints.proofs.Settled.{rows-only, walked-only}
+use Rattle.builders.specs.Built.{Builds}
+use Rattle.builders.proofs.Settled.{builds-only}
+use Rattle.encoding.specs.Encoded.{Encodes}
+use Rattle.encoding.proofs.Settled.{encodes-only}
+use Rattle.exports.specs.Call.{Reports, code}
+use Rattle.exports.specs.Numbers.{id, info, row, slab, tuple}
+use Rattle.exports.specs.Stores.{RunAdded, RunFused, RunScaled}
+
+module _ {R A : Type 0} (of : R → Outcome A) {C : R → List ℕ → Type 0} where
+  -- what the layer below settles
+  pub reports-once : Settled C → Settled (Reports of C)
+  reports-once once q r ys zs u w =
+      let e = once (u .below) (w .below) ys zs (u .meets) (w .meets) in
+      (u .number ∙ ap (λ (a : R). code (of a)) (e .0) ∙ sym (w .number), e .1)
+
+  -- and that the number is the outcome's: 0, and memory as P says, or the refusal's, and memory as it was
+  pub reports-outcome : (o : Outcome A) (xs : List ℕ) (P : List ℕ → Type 0) {ys : List ℕ} {r : ℕ} → ((a : R) → C a ys → Does of o xs P a ys) → Reports of C r ys
+      → (r ≡ code o) × Left o xs ys (P ys)
+  reports-outcome o xs P {ys} means u =
+      let d = means (u .below) (u .meets) in
+      (u .number ∙ ap code (d .0), subst (λ (p : Outcome A). Left p xs ys (P ys)) (d .0) (d .1))
+
+-- ---- runs
+
+pub run-add-once : (xs s : List ℕ) → Settled (Reports done (RunAdded xs s))
+run-add-once xs s = reports-once done (settled-written done done-only _ xs (added xs 0 s) 0 (length s))
+
+pub run-scale-once : (xs : List ℕ) (c : ℕ) → Settled (Reports done (RunScaled xs c))
+run-scale-once xs c = reports-once done (settled-written done done-only _ xs (scaled c xs) 0 (length xs))
+
+pub run-fma-once : (xs s : List ℕ) (c : ℕ) → Settled (Reports done (RunFused xs s c))
+run-fma-once xs s c = reports-once done (settled-written done done-only _ xs (fused xs 0 c s) 0 (length s))
+
+-- ---- symbols
+
+module _ (xs : List ℕ) (count t : ℕ) where
+  pub slab-with-zeros-once : Settled (Reports slabOutcome (Zeroed xs count t))
+  slab-with-zeros-once = reports-once slabOutcome (slabs.with-zeros-once xs count t)
+
+  pub slab-add-assign-once : (order : List ℕ) (dest src : ℕ) → Settled (Reports done (SymbolsAdded xs (slab count t) order dest src))
+  slab-add-assign-once order dest src = reports-once done (slabs.add-assign-once xs (slab count t) order dest src)
+
+  pub slab-mulassign-scalar-once : (order : List ℕ) (dest c : ℕ) → Settled (Reports done (SymbolScaled xs (slab count t) order dest c))
+  slab-mulassign-scalar-once order dest c = reports-once done (slabs.mulassign-scalar-once xs (slab count t) order dest c)
+
+  pub slab-fma-once : (order : List ℕ) (dest src c : ℕ) → Settled (Reports done (SymbolsFused xs (slab count t) order dest src c))
+  slab-fma-once order dest src c = reports-once done (slabs.fma-once xs (slab count t) order dest src c)
+
+-- ---- matrices
+
+module _ (xs : List ℕ) (height width : ℕ) where
+  pub matrix-new-once : Settled (Reports matrixOutcome (Cleared xs height width))
+  matrix-new-once = reports-once matrixOutcome (matrices.new-once xs height width)
+
+  pub matrix-set-once : (i j v : ℕ) → Settled (Reports done (EntrySet xs (shape height width) i j v))
+  matrix-set-once i j v = reports-once done (matrices.set-once xs (shape height width) i j v)
+
+  pub matrix-swap-rows-once : (i j : ℕ) → Settled (Reports done (RowsSwapped xs (shape height width) i j))
+  matrix-swap-rows-once i j = reports-once done (matrices.swap-rows-once xs (shape height width) i j)
+
+  pub matrix-swap-columns-once : (i j start : ℕ) → Settled (Reports done (ColumnsSwapped xs (shape height width) i j start))
+  matrix-swap-columns-once i j start = reports-once done (matrices.swap-columns-once xs (shape height width) i j start)
+
+  pub matrix-add-assign-rows-once : (dest src : ℕ) → Settled (Reports done (RowsAdded xs (shape height width) dest src))
+  matrix-add-assign-rows-once dest src = reports-once done (matrices.add-assign-rows-once xs (shape height width) dest src)
+
+  pub matrix-resize-once : (h w : ℕ) → Settled (Reports matrixOutcome (Resized xs (shape height width) h w))
+  matrix-resize-once h w = reports-once matrixOutcome (matrices.resize-once xs (shape height width) h w)
+
+-- ---- headers
+
+pub payload-id-write-once : (sbn esi : ℕ) (xs : List ℕ) → Settled (Reports done (λ a ys. IdStored (id sbn esi) xs ys a))
+payload-id-write-once sbn esi xs = reports-once done (λ a b ys zs u w. stores-only u w)
+
+pub transmission-write-once : (f t z n al : ℕ) (xs : List ℕ) → Settled (Reports done (λ a ys. InfoStored (info f t z n al) xs ys a))
+transmission-write-once f t z n al xs = reports-once done (λ a b ys zs u w. stores-only u w)
+
+pub packet-write-once : (sbn esi : ℕ) (bs xs : List ℕ) → Settled (Reports done (λ a ys. PacketStored (id sbn esi) bs xs ys a))
+packet-write-once sbn esi bs xs = reports-once done (λ a b ys zs u w. stores-only u w)
+
+-- ---- rows of the system, and the encoding of a symbol
+
+module _ (k j s h w : ℕ) where
+  pub enc-indices-once : (d a b d1 a1 b1 : ℕ) (xs : List ℕ) → Settled (Reports numberOutcome (λ n ys. Walked (row k j s h w) (tuple d a b d1 a1 b1) xs ys n))
+  enc-indices-once d a b d1 a1 b1 xs = reports-once numberOutcome (λ p q ys zs u v. walked-only u v)
+
+  pub hdpc-rows-once : (v xs : List ℕ) → Settled (Reports done (λ a ys. HdpcRows v (row k j s h w) xs ys a))
+  hdpc-rows-once v xs = reports-once done (λ a b ys zs u v. rows-only u v)
+
+  pub constraint-matrix-once : (v isis xs : List ℕ) → Settled (Reports matrixOutcome (λ m ys. Builds v isis (row k j s h w) h k xs ys m))
+  constraint-matrix-once v isis xs = reports-once matrixOutcome (λ a b ys zs u v. builds-only u v)
+
+  pub constraint-matrix-no-hdpc-once : (v isis xs : List ℕ) → Settled (Reports matrixOutcome (λ m ys. Builds v isis (row k j s h w) 0 (k + h) xs ys m))
+  constraint-matrix-no-hdpc-once v isis xs = reports-once matrixOutcome (λ a b ys zs u v. builds-only u v)
+
+  pub encode-once : (v : List ℕ) (count t esi : ℕ) (C xs : List ℕ) → Settled (Reports done (λ a ys. Encodes v (row k j s h w) count t esi C xs ys a))
+  encode-once v count t esi C xs = reports-once done (λ a b ys zs u v. encodes-only u v)

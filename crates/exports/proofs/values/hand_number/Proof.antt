@@ -1,0 +1,46 @@
+-- `exports::values::hand_number` meets its contract: the value goes through `hand_one`, a refusal is told.
+-- Assumes nothing.
+use mathlib.Core.Path.{refl, sym, ap}
+use Rattle.exports.proofs.Calls.{called-of, called-refused}
+use Rattle.exports.specs.Call.{one}
+use Rattle.headers.specs.Number.{numberOutcome}
+use borrow.Author.Needs.{needs}
+use Rattle.exports.proofs.values.hand_number.Statement.{statement}
+use Rattle.exports.proofs.values.hand_number.Tie as tie
+
+enum-known-n : tie.Need-enum-known-n
+enum-known-n c = search needs
+
+cast-hand-one : tie.Need-cast-hand-one
+cast-hand-one c = search needs
+
+hand-one-requires : tie.Need-hand-one-requires
+hand-one-requires c κs = search needs
+
+enum-known-n-2 : tie.Need-enum-known-n-2
+enum-known-n-2 c = search needs
+
+number-requires : tie.Need-number-requires
+number-requires c κs = search needs
+
+same-length : tie.Need-same-length
+same-length c = search needs
+
+returns : tie.Need-returns
+returns c = called-of one (sym (ap numberOutcome (c .before .before .before .before .before .n .given .1))) (c .before .before .hand-one .ensures)
+
+returns-2 : tie.Need-returns-2
+returns-2 c = called-refused one (sym (ap numberOutcome (c .before .before .n2 .given .1))) (c .number .ensures) refl
+
+pub hand-number-spec : {M : Type 1} → statement M
+hand-number-spec =
+    tie.close
+    (tie.spec
+    enum-known-n
+    cast-hand-one
+    hand-one-requires
+    enum-known-n-2
+    number-requires
+    same-length
+    returns
+    returns-2)
