@@ -9,7 +9,7 @@ use Rattle.field.specs.Answer.{Outcome, Left, Does, done}
 use Rattle.field.specs.Runs.{added, fused, scaled}
 use Rattle.field.proofs.Refusals.{Settled, done-only, settled-written}
 use Rattle.headers.specs.Headers.{IdStored, InfoStored, PacketStored}
-use Rattle.headers.specs.Number.{outcome as numberOutcome}
+use Rattle.headers.specs.Number.{numberOutcome}
 use Rattle.headers.proofs.Answers.{stores-only}
 use Rattle.slab.specs.Slab.{SymbolScaled, SymbolsAdded, SymbolsFused, Zeroed, slabOutcome}
 use Rattle.slab.proofs.Once as slabs

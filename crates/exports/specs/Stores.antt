@@ -8,7 +8,7 @@ use lib.ListN.{length}
 use Rattle.field.specs.Answer.{Outcome, Does, before, done, given, unless}
 use Rattle.field.specs.Runs.{Written, added, fused, scaled}
 use Rattle.field.specs.declared.refusal.Answer.{Answer}
-use Rattle.stores.specs.Counting.{ones}
+use Rattle.field.specs.Ones.{ones}
 use Rattle.stores.specs.Matrix.{entry, limited, listable}
 use Rattle.stores.specs.declared.matrix.DenseBinaryMatrix.{DenseBinaryMatrix}
 use Rattle.exports.specs.Call.{andRoom}

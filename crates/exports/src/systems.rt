@@ -1,7 +1,7 @@
 // The rows of the linear system (RFC 6330, sections 5.3.3.3 and 5.3.5.3). A row of parameters is its five numbers K', J, S, H, W.
 ghost use Prim.Native.Nat.{_+_};
 ghost use Rattle.field.specs.Answer.{done};
-ghost use Rattle.headers.specs.Number.{outcome as numberOutcome};
+ghost use Rattle.headers.specs.Number.{numberOutcome};
 ghost use Rattle.stores.specs.Matrix.{matrixOutcome};
 ghost use Rattle.constraints.specs.Answers.{HdpcRows, Walked};
 ghost use Rattle.builders.specs.Built.{Builds};

@@ -2,8 +2,8 @@
 ghost use mathlib.Core.Path.{_≡_};
 ghost use mathlib.Core.List.{[], _∷_};
 ghost use lib.ListN.{length};
-ghost use Rattle.field.specs.Answer.{done, given, outcome as octetOutcome};
-ghost use Rattle.headers.specs.Number.{outcome as numberOutcome};
+ghost use Rattle.field.specs.Answer.{done, given, octetOutcome};
+ghost use Rattle.headers.specs.Number.{numberOutcome};
 ghost use Rattle.slab.specs.Slab.{slabOutcome};
 ghost use Rattle.stores.specs.Matrix.{counted, matrixOutcome};
 ghost use Rattle.exports.specs.Call.{Called, code, listed, one, roomed, thenRoomed};
