@@ -1,3 +1,5 @@
+//! `fill_hdpc` is ported from constraint_matrix.rs of raptorq 2.0.1 (Apache-2.0) and changed; the rest is ours.
+//!
 //! The solver's elimination in plain Rust: the rows in the order of ours, the same steps, over the same stores. It counts the operations on symbols.
 use differential::archive::{Arrived, Row, Stores};
 use differential::rows::{rand, shifted, sizes, tuple};

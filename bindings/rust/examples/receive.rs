@@ -1,60 +1,110 @@
-//! A receiver: the sender's 12 bytes of transmission information and packets in, the object out. `main` below takes the published crate's encoder for the sender.
+//! The receiver to copy: a sender's 12 bytes of transmission information and its packets in, the object out.
+//!
+//! usage: receive [FILE]     FILE: the 12 bytes, and then packets of 4 + T bytes as they came; without it the recorded ones of data/stream.bin
+//!
+//! Standard output gets the object, or nothing where a block of it is not solved; what became of each block goes to standard error. Exit status: 0 with
+//! the object, 1 without, 2 where the file or its transmission information cannot be taken.
 #![forbid(unsafe_code)]
-use spoonripple::headers::{ObjectTransmissionInformation, partition, read_packet};
+use spoonripple::headers::{ObjectTransmissionInformation, PayloadId, partition, read_packet};
 use spoonripple::{Block, Refusal, Row, Tables, Verdict};
+use std::error::Error;
+use std::io::Write;
+use std::path::PathBuf;
+use std::process::ExitCode;
+
+/// What the published crate's encoder sent of an object in three blocks, some packets lost.
+const RECORDED: &[u8] = include_bytes!("../data/stream.bin");
 
 /// The longest object that this station expects: a damaged header can name 900 GB, and its blocks would be allocated.
 const LONGEST: u64 = 1 << 26;
 
-/// The object, or None if the packets ended before each block was solved. A refusal says that the header is not one that a sender may send.
-fn receive(header: &[u8], packets: impl Iterator<Item = Vec<u8>>) -> Result<Option<Vec<u8>>, Refusal> {
-    let info = ObjectTransmissionInformation::read(header)?;
-    // Reading applies no rule: without this a damaged header would make up a block size.
-    info.check()?;
-    let (length, t) = (info.transfer_length as usize, info.symbol_size);
-    // The check lets T = 0 pass, as the crate does; and more sub-blocks than one would have to be put in order afterwards (RFC 6330, 4.4.1.2).
-    if info.transfer_length > LONGEST || t == 0 || info.num_sub_blocks != 1 {
-        return Err(Refusal::BadTransmission);
-    }
-    // ceil(F/T) symbols in Z blocks: the first ones have one symbol more.
-    let parts = partition(length.div_ceil(t.into()) as u32, info.num_source_blocks.into())?;
-    let counts = [vec![parts.long_size; parts.long as usize], vec![parts.short_size; parts.short as usize]].concat();
-    let blocks = counts.iter().map(|k| Block::new(Row::published(*k)?, Tables::published(), *k, t));
-    let mut blocks = blocks.collect::<Result<Vec<Block>, Refusal>>()?;
-    // How many arrivals a block needs before it is worth asking: solving costs more than taking.
-    let mut wanted: Vec<u64> = counts.iter().map(|k| (*k).into()).collect();
-    for packet in packets {
-        let Ok((id, symbol)) = read_packet(&packet) else { continue };
-        let at = usize::from(id.source_block_number);
-        let Some(block) = blocks.get_mut(at) else { continue };
-        // A block that is solved needs no more, and a packet that cannot be one of this block is dropped: it must not stop the others.
-        if block.source().is_some() || block.take(id.encoding_symbol_id, symbol).is_err() || (block.arrivals().esis.len() as u64) < wanted[at] {
-            continue;
-        }
-        match block.solve() {
-            Verdict::Solved => {}
-            // No fewer than the shortfall can do.
-            Verdict::Open { shortfall } => wanted[at] += shortfall,
-            // One of the packets is damaged and it cannot be told which: begin this block anew rather than load an invented record.
-            Verdict::Contradiction => {
-                *block = Block::new(Row::published(counts[at])?, Tables::published(), counts[at], t)?;
-                wanted[at] = counts[at].into();
-            }
-        }
-    }
-    let sources: Option<Vec<&[u8]>> = blocks.iter().map(Block::source).collect();
-    // The last block ends in padding past F.
-    Ok(sources.map(|all| all.concat()[..length].to_vec()))
+/// An object on its way in. It keeps every packet of its blocks, since a station cannot ask again: what a contradiction came of can still be looked at.
+pub struct Station {
+    length: usize,
+    packet_size: usize,
+    blocks: Vec<Block<'static>>,
+    /// How many packets of each block it takes before asking is worth it: solving costs more than taking.
+    wanted: Vec<u64>,
 }
 
-fn main() -> Result<(), Refusal> {
-    let object: Vec<u8> = (0..2000).flat_map(|n| format!("record {n}\n").into_bytes()).collect();
-    let config = raptorq::ObjectTransmissionInformation::new(object.len() as u64, 64, 3, 1, 8);
-    let sent = raptorq::Encoder::new(&object, config).get_encoded_packets(40);
-    // Every tenth packet is lost on the way.
-    let came = sent.iter().enumerate().filter(|(n, _)| n % 10 != 0).map(|(_, packet)| packet.serialize());
-    let received = receive(&config.serialize(), came)?.expect("enough packets came");
-    assert!(received == object, "what was received is what was sent");
-    println!("received {} bytes, as they were sent", received.len());
-    Ok(())
+impl Station {
+    /// Refused where the header is not one that a sender may send, or that this station expects.
+    pub fn new(header: &[u8]) -> Result<Station, Refusal> {
+        let info = ObjectTransmissionInformation::read(header)?;
+        // Reading applies no rule: without this a damaged header would make up a block size.
+        info.check()?;
+        let (length, t) = (info.transfer_length as usize, info.symbol_size);
+        // The check lets T = 0 pass, as the crate raptorq does; and more sub-blocks than one would have to be put in order afterwards (RFC 6330, 4.4.1.2).
+        if info.transfer_length > LONGEST || t == 0 || info.num_sub_blocks != 1 {
+            return Err(Refusal::BadTransmission);
+        }
+        // ceil(F/T) symbols in Z blocks: the first ones have one symbol more.
+        let parts = partition(length.div_ceil(t.into()) as u32, info.num_source_blocks.into())?;
+        let counts = [vec![parts.long_size; parts.long as usize], vec![parts.short_size; parts.short as usize]].concat();
+        let blocks = counts.iter().map(|k| Block::new(Row::published(*k)?, Tables::published(), *k, t)).collect::<Result<_, _>>()?;
+        Ok(Station { length, packet_size: PayloadId::SIZE + usize::from(t), blocks, wanted: counts.iter().map(|k| (*k).into()).collect() })
+    }
+
+    /// How many bytes a packet has: this station expects one symbol in each.
+    pub fn packet_size(&self) -> usize {
+        self.packet_size
+    }
+
+    /// Hears a packet, of a block that is solved too: it goes on comparing. One that cannot be of this object, or for which its block has no room, is
+    /// dropped: it must not stop the others.
+    pub fn hear(&mut self, packet: &[u8]) {
+        let Ok((id, symbol)) = read_packet(packet) else { return };
+        let at = usize::from(id.source_block_number);
+        let Some(block) = self.blocks.get_mut(at) else { return };
+        if block.take(id.encoding_symbol_id, symbol).is_err() || (block.arrivals().esis.len() as u64) < self.wanted[at] {
+            return;
+        }
+        // Of a block that is solved or a contradiction this costs nothing; of an open one no fewer packets than the shortfall can do.
+        if let Verdict::Open { shortfall } = block.solve() {
+            self.wanted[at] = block.arrivals().esis.len() as u64 + shortfall;
+        }
+    }
+
+    /// What became of each block, by all that came.
+    pub fn verdicts(&mut self) -> Vec<Verdict> {
+        self.blocks.iter_mut().map(Block::solve).collect()
+    }
+
+    /// The object, if each block is solved. To be asked when no packet can come any more: a later one may contradict it.
+    pub fn object(&self) -> Option<Vec<u8>> {
+        let sources: Option<Vec<&[u8]>> = self.blocks.iter().map(Block::source).collect();
+        // The last block ends in padding past F.
+        sources.map(|all| all.concat()[..self.length].to_vec())
+    }
+}
+
+/// Whether there was an object to write.
+fn run() -> Result<bool, Box<dyn Error>> {
+    let came = match std::env::args_os().nth(1).map(PathBuf::from) {
+        Some(file) => std::fs::read(&file).map_err(|why| format!("{}: {why}", file.display()))?,
+        None => RECORDED.to_vec(),
+    };
+    let (header, packets) = came.split_at(came.len().min(ObjectTransmissionInformation::SIZE));
+    let mut station = Station::new(header)?;
+    for packet in packets.chunks(station.packet_size()) {
+        station.hear(packet);
+    }
+    for (number, verdict) in station.verdicts().iter().enumerate() {
+        eprintln!("block {number}: {verdict}");
+    }
+    let Some(object) = station.object() else { return Ok(false) };
+    let mut out = std::io::stdout();
+    out.write_all(&object)?;
+    out.flush()?;
+    Ok(true)
+}
+
+fn main() -> ExitCode {
+    match run() {
+        Ok(written) => ExitCode::from(u8::from(!written)),
+        Err(why) => {
+            eprintln!("receive: {why}");
+            ExitCode::from(2)
+        }
+    }
 }

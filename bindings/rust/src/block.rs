@@ -1,13 +1,34 @@
-//! A source block as a receiver holds it: packets go in as they come, and the block comes out once it is solved.
+//! A source block as a receiver holds it: packets go in as they come, the block comes out once it is solved, and a solved block goes on listening.
 use crate::blocks::{Arrivals, Room, Shown, Stores, Verdict, display, encode, solve};
 use crate::parameters::{Row, Tables};
 use crate::refusal::Refusal;
 use crate::tuples::isi;
+use std::collections::BTreeSet;
+
+/// How many packets a block keeps: the solver refuses more (9).
+const MOST_KEPT: usize = 65535;
 
 /// One source block of K symbols of T octets, with all the memory that decoding it takes.
 ///
-/// The solver asks (L - K + n) · (L + T) octets of scratch for n arrivals, where L is a little above K; they are taken at the first [`solve`](Block::solve)
-/// and kept.
+/// # A solved block goes on listening
+///
+/// Of just as many packets as are needed, damaged ones make a block too: only a later packet can tell. So [`take`](Block::take) compares what comes to a
+/// solved block with the encoding of its ESI. If the two are equal the block stays solved, else it is a contradiction; and a contradiction stays one,
+/// whatever comes. Solving anew over all that came would answer the same, as theorems of `docs/PROMISES.md` say:
+///
+/// - With more packets, solved stays solved with the same octets or becomes a contradiction (`solved-then`).
+/// - An unequal packet leaves only the contradiction: a solved set re-encodes all that came (`reencodes`).
+/// - An equal one leaves only solved: the set fits it too, and where a set fits there is no contradiction (`never-contradiction`).
+/// - A contradiction stays one (`contradiction-then`).
+///
+/// # What is kept
+///
+/// Every packet, in the order in which they came, those of a contradiction too: which of them is damaged no solver can tell, but whoever looks for it needs
+/// them all. Only what came before with the same octets is not kept again, since it changes nothing (`repeat-changes-nothing`): a carousel that goes round
+/// does not fill a block. At most 65,535 packets are kept.
+///
+/// The solver asks (L - K + n) · (L + T) octets of scratch for n packets, where L is a little above K; they are taken at the first
+/// [`solve`](Block::solve) and given back once the block is solved or a contradiction, since it is not solved anew after that.
 #[derive(Clone, Debug)]
 pub struct Block<'a> {
     row: Row,
@@ -16,11 +37,13 @@ pub struct Block<'a> {
     t: u16,
     esis: Vec<u32>,
     symbols: Vec<u8>,
+    /// The places of `esis` by ESI.
+    places: BTreeSet<(u32, usize)>,
     rows: Vec<u8>,
     values: Vec<u8>,
     intermediates: Vec<u8>,
     source: Vec<u8>,
-    solved: bool,
+    verdict: Option<Verdict>,
 }
 
 impl<'a> Block<'a> {
@@ -31,34 +54,72 @@ impl<'a> Block<'a> {
             return Err(Refusal::BadSize);
         }
         let source = vec![0; count as usize * usize::from(t)];
-        let empty = Vec::new;
-        Ok(Block { row, tables, count, t, esis: vec![], symbols: empty(), rows: empty(), values: empty(), intermediates: empty(), source, solved: false })
+        let [symbols, rows, values, intermediates] = [const { Vec::new() }; 4];
+        let (esis, places) = (Vec::new(), BTreeSet::new());
+        Ok(Block { row, tables, count, t, esis, symbols, places, rows, values, intermediates, source, verdict: None })
     }
 
-    /// Takes the symbol of an ESI. The same one may come twice: equal symbols change nothing, unequal ones are a contradiction. Refused, with nothing
-    /// taken: 9 where the ESI is 2^24 or more or 65,535 arrived before, then 10 where the symbol is not t octets.
+    /// Takes the symbol of an ESI. A solved block compares it (see [`Block`]), and [`verdict`](Block::verdict) tells what it is then; of any other the next
+    /// [`solve`](Block::solve) tells. Refused, with nothing changed: 9 where the ESI is 2^24 or more, or 65,535 other packets are kept and the block is not
+    /// solved; then 10 where the symbol is not t octets.
+    ///
+    /// A comparison needs no room: a solved block with 65,535 packets, more than which the solver would refuse, still takes any number. It does not keep
+    /// them, not even the one that makes it a contradiction.
     pub fn take(&mut self, esi: u32, symbol: &[u8]) -> Result<(), Refusal> {
         isi(self.row, self.count, esi)?;
-        if self.esis.len() >= 65535 {
+        let (again, full) = (self.keeps(esi, symbol), self.esis.len() == MOST_KEPT);
+        if full && !again && self.verdict != Some(Verdict::Solved) {
             return Err(Refusal::BadCount);
         }
         if symbol.len() != usize::from(self.t) {
             return Err(Refusal::BadSize);
         }
-        self.esis.push(esi);
-        self.symbols.extend(symbol);
-        self.solved = false;
+        if again {
+            return Ok(());
+        }
+        self.verdict = match self.verdict {
+            Some(Verdict::Solved) if self.encodes(esi, symbol) => Some(Verdict::Solved),
+            Some(Verdict::Solved | Verdict::Contradiction) => Some(Verdict::Contradiction),
+            Some(Verdict::Open { .. }) | None => None,
+        };
+        if !full {
+            self.places.insert((esi, self.esis.len()));
+            self.esis.push(esi);
+            self.symbols.extend(symbol);
+        }
         Ok(())
     }
 
-    /// What arrived so far.
+    /// Whether this symbol came for this ESI before, and was kept.
+    fn keeps(&self, esi: u32, symbol: &[u8]) -> bool {
+        let t = usize::from(self.t);
+        self.places.range((esi, 0)..=(esi, usize::MAX)).any(|(_, at)| self.symbols[at * t..][..t] == *symbol)
+    }
+
+    /// Whether the solved set gives this symbol for this ESI.
+    fn encodes(&self, esi: u32, symbol: &[u8]) -> bool {
+        let mut encoded = vec![0; symbol.len()];
+        encode(self.row, self.tables, self.count, self.t, esi, &self.intermediates, &mut encoded).expect("what could be refused was");
+        encoded == symbol
+    }
+
+    /// The packets that are kept, in the order in which they came.
     pub fn arrivals(&self) -> Arrivals<'_> {
         Arrivals { count: self.count, t: self.t, esis: &self.esis, symbols: &self.symbols }
     }
 
-    /// Decides over all that arrived. Each call starts anew and costs up to about L · n · (L + T) steps, so that it is not worth a call before K packets came,
-    /// nor after [`Verdict::Open`] before as many more as its shortfall did.
+    /// What is known of all that came without solving: solved or a contradiction, once [`solve`](Block::solve) said so and as later packets left it; open, if
+    /// it said so and nothing new came since. `None` where it has to be asked.
+    pub fn verdict(&self) -> Option<Verdict> {
+        self.verdict
+    }
+
+    /// Decides over all that came. What [`verdict`](Block::verdict) knows it gives at once; else it starts anew and costs up to about L · n · (L + T) steps, so
+    /// that it is not worth a call before K packets came, nor after [`Verdict::Open`] before as many more as its shortfall did.
     pub fn solve(&mut self) -> Verdict {
+        if let Some(known) = self.verdict {
+            return known;
+        }
         let room = Room::of(self.row, self.arrivals());
         let stores = [(&mut self.rows, room.rows), (&mut self.values, room.values), (&mut self.intermediates, room.out)];
         let [rows, values, out] = stores.map(|(store, need)| {
@@ -67,9 +128,12 @@ impl<'a> Block<'a> {
         });
         let arrivals = Arrivals { count: self.count, t: self.t, esis: &self.esis, symbols: &self.symbols };
         let verdict = solve(self.row, self.tables, arrivals, Stores { rows, values, out }).expect("what could be refused was, when the block took it");
-        self.solved = verdict == Verdict::Solved;
-        if self.solved {
+        self.verdict = Some(verdict);
+        if verdict == Verdict::Solved {
             self.rebuild();
+        }
+        if !matches!(verdict, Verdict::Open { .. }) {
+            (self.rows, self.values) = (Vec::new(), Vec::new());
         }
         verdict
     }
@@ -81,19 +145,19 @@ impl<'a> Block<'a> {
         }
     }
 
-    /// The K · T octets of the source block, if the last [`solve`](Block::solve) said [`Verdict::Solved`] and nothing was taken since.
+    /// The K · T octets of the source block, as long as [`verdict`](Block::verdict) is [`Verdict::Solved`]: a later packet can still make it a contradiction.
     ///
     /// These are the symbols one after the other. Where the sender uses more than one sub-block (N above 1), the object's octets stand in them in the order
     /// of RFC 6330, section 4.4.1.2, and the last block of an object ends in padding past F.
     pub fn source(&self) -> Option<&[u8]> {
-        self.solved.then_some(&self.source[..])
+        (self.verdict == Some(Verdict::Solved)).then_some(&self.source[..])
     }
 
-    /// Source symbol i: as it arrived, or rebuilt if [`source`](Block::source) is there. `None` if neither. Refused: 6 where i is K or more.
+    /// Source symbol i: as it first arrived, or rebuilt if [`source`](Block::source) is there. `None` if neither. Refused: 6 where i is K or more.
     pub fn symbol(&self, i: u32) -> Result<Option<&[u8]>, Refusal> {
         Ok(match display(self.arrivals(), &self.source, i)? {
             Shown::Arrived(octets) => Some(octets),
-            Shown::Rebuilt(octets) => self.solved.then_some(octets),
+            Shown::Rebuilt(octets) => self.source().and(Some(octets)),
         })
     }
 }

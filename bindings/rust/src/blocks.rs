@@ -4,12 +4,13 @@
 use crate::parameters::{Row, Tables};
 use crate::refusal::{Refusal, done, values};
 use crate::sys;
+use std::fmt;
 
 /// What a solved, open or contradictory system is called. The three are exact: they are proved of every call that is not refused.
 #[derive(Clone, Copy, Debug, PartialEq, Eq)]
 pub enum Verdict {
     /// A single set of intermediate symbols fits all that arrived, and it stands in the out store. Whether what arrived is what was sent no solver can
-    /// tell from just as many packets as it needs: drop damaged packets by the link's checksum first.
+    /// tell from just as many packets as it needs: drop damaged packets by the link's checksum first, and go on listening ([`Block`](crate::Block)).
     Solved,
     /// No set fits: something that arrived is not what the sender sent. The out store is as it was.
     Contradiction,
@@ -18,6 +19,17 @@ pub enum Verdict {
         /// How many independent rows are missing: at least so many more packets are needed.
         shortfall: u64,
     },
+}
+
+/// In the words of the receiving program, with `solved` where it writes the block.
+impl fmt::Display for Verdict {
+    fn fmt(&self, f: &mut fmt::Formatter) -> fmt::Result {
+        match self {
+            Verdict::Solved => write!(f, "solved"),
+            Verdict::Contradiction => write!(f, "contradiction"),
+            Verdict::Open { shortfall } => write!(f, "open, {shortfall} more independent packets at least"),
+        }
+    }
 }
 
 /// What arrived of a block.

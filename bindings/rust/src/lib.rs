@@ -1,7 +1,7 @@
-//! A RaptorQ (RFC 6330) receiving core that is proved never to invent a byte, as safe Rust over its C archive.
+#![doc = include_str!("../README.md")]
+//! # What it adds to the archive
 //!
-//! The work is done by the archive `libexports.a`, written in Rattle and proved call by call to meet its contract: `include/spoonripple.h` says what each
-//! call does, `docs/PROMISES.md` which theorem says so. This crate adds types, not algorithms:
+//! Types, not algorithms. `include/spoonripple.h` says what each call of the archive does, `docs/PROMISES.md` which theorem says so.
 //!
 //! - **No `unsafe` for its users.** A slice passes as its pointer and length, so that no length can be wrong.
 //! - **No overlap.** C cannot test that what is lent for writing overlaps nothing else; here a `&mut` slice cannot.
@@ -26,34 +26,10 @@
 //! # Ok::<(), spoonripple::Refusal>(())
 //! ```
 //!
-//! # A receiver
-//!
-//! ```
-//! use spoonripple::{Block, Row, Tables, Verdict};
-//!
-//! // A block of 10 symbols of 4 octets, with the row and the tables of RFC 6330.
-//! let mut block = Block::new(Row::published(10)?, Tables::published(), 10, 4)?;
-//! for esi in 0..9 {
-//!     block.take(esi, &[esi as u8; 4])?;
-//! }
-//! assert_eq!(block.solve(), Verdict::Open { shortfall: 1 });
-//! block.take(9, &[9; 4])?;
-//! assert_eq!(block.solve(), Verdict::Solved);
-//! assert_eq!(&block.source().unwrap()[32..], [8, 8, 8, 8, 9, 9, 9, 9]);
-//! # Ok::<(), spoonripple::Refusal>(())
-//! ```
-//!
-//! `examples/receive.rs` goes from the sender's header and packets to the block.
-//!
 //! # Modules
 //!
 //! [`Block`] is what a receiver needs, with [`headers`] before it and [`parameters`] beside it. The other modules wrap every further call of the archive:
 //! [`octets`], [`tuples`], [`slab`], [`matrix`], [`constraints`], and [`blocks`], which is what [`Block`] calls.
-//!
-//! # Linking
-//!
-//! `rt staticlib exports` makes the archive in `target/staticlib`, where this crate looks for it; another folder is named by the environment variable
-//! `SPOONRIPPLE_ARCHIVE`.
 #![deny(missing_docs, unsafe_op_in_unsafe_fn)]
 
 #[cfg(not(all(target_arch = "x86_64", target_os = "linux")))]

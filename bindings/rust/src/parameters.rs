@@ -6,10 +6,10 @@ use crate::refusal::{Refusal, values};
 use crate::sys;
 
 /// The 477 rows of RFC 6330, Table 2, by rising K': K', J, S, H, W.
-pub static PUBLISHED_ROWS: [[u32; 5]; 477] = rows(numbers(include_str!("../../data/parameter_rows.txt")));
+pub static PUBLISHED_ROWS: [[u32; 5]; 477] = rows(numbers(include_str!("../data/parameter_rows.txt")));
 
 /// The tables V0, V1, V2, V3 of RFC 6330, section 5.5, one after the other.
-pub static PUBLISHED_TABLES: [u32; 1024] = numbers(include_str!("../../data/random_tables.txt"));
+pub static PUBLISHED_TABLES: [u32; 1024] = numbers(include_str!("../data/random_tables.txt"));
 
 /// The N numbers of a text in which a comma ends each; another count does not compile.
 const fn numbers<const N: usize>(text: &str) -> [u32; N] {

@@ -4,8 +4,9 @@ use std::fmt;
 /// Why a call was refused. A call that refuses has changed no byte that it was lent.
 ///
 /// The numbers and what they mean are those of the table 'Refusal numbers' in `docs/01-scope.md`. Where several apply, the one that comes first in
-/// 4, 5, 2, 9, 10, 8, 6, 7, 3, 1 is given.
+/// 4, 5, 2, 9, 10, 8, 6, 7, 3, 1 is given. More numbers can come with more calls, so a `match` has an arm for the rest.
 #[derive(Clone, Copy, Debug, PartialEq, Eq, Hash)]
+#[non_exhaustive]
 #[repr(u32)]
 pub enum Refusal {
     /// 1: an octet is divided by 0.
@@ -31,28 +32,26 @@ pub enum Refusal {
 }
 
 impl Refusal {
-    /// All ten, in the order of their numbers.
-    pub const ALL: [Refusal; 10] = [
-        Refusal::DivisorZero,
-        Refusal::OutOfRange,
-        Refusal::BadTransmission,
-        Refusal::BadRow,
-        Refusal::BadTables,
-        Refusal::Outside,
-        Refusal::SamePlace,
-        Refusal::WrongLength,
-        Refusal::BadCount,
-        Refusal::BadSize,
-    ];
-
-    /// The number in `docs/01-scope.md`, 1 to 10.
+    /// The number in `docs/01-scope.md`.
     pub fn number(self) -> u32 {
         self as u32
     }
 
     /// The refusal with this number.
     pub fn of(number: u32) -> Option<Refusal> {
-        Refusal::ALL.into_iter().find(|r| r.number() == number)
+        Some(match number {
+            1 => Refusal::DivisorZero,
+            2 => Refusal::OutOfRange,
+            3 => Refusal::BadTransmission,
+            4 => Refusal::BadRow,
+            5 => Refusal::BadTables,
+            6 => Refusal::Outside,
+            7 => Refusal::SamePlace,
+            8 => Refusal::WrongLength,
+            9 => Refusal::BadCount,
+            10 => Refusal::BadSize,
+            _ => return None,
+        })
     }
 
     /// What it means, in words that can stand in a log.

@@ -1,14 +1,12 @@
-//! Every call that needs no delivery: its answer beside the published crate's or an example of docs/01-scope.md, and its refusals, which leave the
-//! lent memory alone.
+//! Every call that needs no delivery: an answer that document 01 or plain Rust has too, and its refusals, which leave the lent memory alone. The published
+//! crate's answers are in recorded.rs and in bindings/rust_oracle.
 #![forbid(unsafe_code)]
-use raptorq::matrix::{BinaryMatrix, DenseBinaryMatrix};
-use raptorq::octet::Octet;
 use spoonripple::headers::{ObjectTransmissionInformation, Parts, PayloadId, partition, read_packet, write_packet};
 use spoonripple::matrix::Shape;
 use spoonripple::parameters::Sizes;
 use spoonripple::slab::Slab;
 use spoonripple::tuples::{Isi, Tuple, deg, isi, rand, tuple};
-use spoonripple::{Refusal, Row, Tables, constraints, matrix, octets, slab};
+use spoonripple::{Refusal, Row, Tables, Verdict, constraints, matrix, octets, slab};
 
 /// Bytes that look like no pattern.
 fn bytes(n: usize) -> Vec<u8> {
@@ -20,37 +18,60 @@ fn row() -> Row {
 }
 
 #[test]
-fn refusals_have_the_numbers_of_document_01() {
-    let table = include_str!("../../../docs/01-scope.md");
-    for (n, refusal) in (1..).zip(Refusal::ALL) {
-        assert_eq!((refusal.number(), Refusal::of(n)), (n, Some(refusal)));
-        assert!(table.contains(&format!("\n| {n} |")) && !refusal.meaning().is_empty());
-    }
-    assert_eq!((Refusal::of(0), Refusal::of(11), Refusal::of(100)), (None, None, None));
+fn refusals_are_those_of_document_01() {
+    let (_, table) = include_str!("../../../docs/01-scope.md").split_once("| No. |").unwrap();
+    let rows = table.lines().skip(2).take_while(|line| line.starts_with('|'));
+    let numbers: Vec<u32> = rows.map(|row| row.split('|').nth(1).unwrap().trim().parse().unwrap()).collect();
+    let named: Vec<u32> = (0..1000).filter(|n| Refusal::of(*n).is_some_and(|refusal| refusal.number() == *n && !refusal.meaning().is_empty())).collect();
+    assert_eq!((&named, (0..1000).filter_map(Refusal::of).count()), (&numbers, numbers.len()));
     assert_eq!(Refusal::BadRow.to_string(), "refused 4: the parameter row breaks its rules");
 }
 
+/// More refusals can come: without that the last arm could not be reached, and this would not compile.
 #[test]
-fn octets_are_the_crates() {
-    for pair in (0..=u16::MAX).step_by(7) {
-        let [a, b] = pair.to_be_bytes();
-        let (x, y) = (Octet::new(a), Octet::new(b));
-        assert_eq!(octets::add(a, b), (x.clone() + y.clone()).byte());
-        assert_eq!(octets::sub(a, b), (x.clone() - y.clone()).byte());
-        assert_eq!(octets::mul(a, b), (x.clone() * y.clone()).byte());
-        assert_eq!(octets::fma(a, b, 29), (x.clone() + y.clone() * Octet::new(29)).byte());
-        let quotient = if b == 0 { Err(Refusal::DivisorZero) } else { Ok((x / y).byte()) };
-        assert_eq!(octets::div(a, b), quotient);
+#[deny(unreachable_patterns)]
+fn refusals_are_not_exhaustive() {
+    use Refusal::*;
+    let number = |refusal| match refusal {
+        DivisorZero | OutOfRange | BadTransmission | BadRow | BadTables | Outside | SamePlace | WrongLength | BadCount | BadSize => 1,
+        _ => 0,
+    };
+    assert_eq!(number(BadSize), 1);
+}
+
+#[test]
+fn verdicts_are_told_in_words() {
+    assert_eq!([Verdict::Solved, Verdict::Contradiction].map(|verdict| verdict.to_string()), ["solved", "contradiction"]);
+    assert_eq!(Verdict::Open { shortfall: 3 }.to_string(), "open, 3 more independent packets at least");
+}
+
+/// a · b as RFC 6330 has it, without tables: copies of a, doubled, for the bits of b.
+fn product(a: u8, b: u8) -> u8 {
+    let double = |x: u8| (x << 1) ^ if x >= 128 { 29 } else { 0 };
+    let copies = std::iter::successors(Some(a), |x| Some(double(*x)));
+    copies.zip(0..8).filter(|(_, bit)| b >> bit & 1 == 1).fold(0, |sum, (copy, _)| sum ^ copy)
+}
+
+#[test]
+fn octets_are_those_of_the_rfc() {
+    for [a, b] in (0..=u16::MAX).map(u16::to_be_bytes) {
+        assert_eq!((octets::add(a, b), octets::sub(a, b)), (a ^ b, a ^ b));
+        assert_eq!((octets::mul(a, b), octets::fma(29, a, b)), (product(a, b), 29 ^ product(a, b)));
+        match octets::div(a, b) {
+            Ok(quotient) => assert_eq!(product(quotient, b), a),
+            Err(refusal) => assert_eq!((refusal, b), (Refusal::DivisorZero, 0)),
+        }
     }
     assert_eq!([octets::mul(128, 2), octets::mul(142, 2), octets::mul(3, 7), octets::mul(0, 255)], [29, 1, 9, 0]);
+    assert_eq!((octets::div(9, 7), octets::div(5, 0)), (Ok(3), Err(Refusal::DivisorZero)));
     for i in 0..300 {
-        let power = if i > 255 { Err(Refusal::OutOfRange) } else { Ok(Octet::alpha(i).byte()) };
+        let power = if i > 255 { Err(Refusal::OutOfRange) } else { Ok((0..i).fold(1, |x, _| product(2, x))) };
         assert_eq!(octets::alpha(i), power);
     }
 }
 
 #[test]
-fn runs_are_the_crates() {
+fn runs_are_octets_one_by_one() {
     let (dst, src) = (bytes(100), bytes(200)[100..].to_vec());
     let each = |call: &dyn Fn(u8, u8) -> u8| dst.iter().zip(&src).map(|(a, b)| call(*a, *b)).collect::<Vec<u8>>();
     let mut run = dst.clone();
@@ -58,10 +79,10 @@ fn runs_are_the_crates() {
     assert_eq!(run, each(&|a, b| a ^ b));
     run = dst.clone();
     octets::run_scale(&mut run, 77);
-    assert_eq!(run, each(&|a, _| (Octet::new(a) * Octet::new(77)).byte()));
+    assert_eq!(run, each(&|a, _| product(a, 77)));
     run = dst.clone();
     assert_eq!(octets::run_fma(&mut run, &src, 77), Ok(()));
-    assert_eq!(run, each(&|a, b| a ^ (Octet::new(b) * Octet::new(77)).byte()));
+    assert_eq!(run, each(&|a, b| a ^ product(b, 77)));
     run = dst.clone();
     assert_eq!(octets::run_add(&mut run, &src[1..]), Err(Refusal::WrongLength));
     assert_eq!(octets::run_fma(&mut run, &src[1..], 77), Err(Refusal::WrongLength));
@@ -72,12 +93,12 @@ fn runs_are_the_crates() {
 #[test]
 fn payload_ids_are_read_and_written() {
     let id = PayloadId { source_block_number: 3, encoding_symbol_id: 0x01_02_03 };
-    let theirs = raptorq::PayloadId::new(3, 0x01_02_03).serialize();
-    assert_eq!(PayloadId::read(&theirs), Ok(id));
+    let sent = [3, 1, 2, 3];
+    assert_eq!(PayloadId::read(&sent), Ok(id));
     assert_eq!(PayloadId::read(&[0; 5]), Err(Refusal::WrongLength));
     let mut store = [9; 6];
     assert_eq!(id.write(&mut store), Ok(()));
-    assert_eq!((&store[..PayloadId::SIZE], &store[4..]), (&theirs[..], &[9, 9][..]));
+    assert_eq!((&store[..PayloadId::SIZE], &store[4..]), (&sent[..], &[9, 9][..]));
     assert_eq!(id.write(&mut store[..3]), Err(Refusal::WrongLength));
     let large = PayloadId { encoding_symbol_id: 1 << 24, ..id };
     assert_eq!(large.write(&mut []), Err(Refusal::BadCount));
@@ -86,12 +107,12 @@ fn payload_ids_are_read_and_written() {
 #[test]
 fn transmission_information_is_read_written_and_checked() {
     let info = ObjectTransmissionInformation { transfer_length: 10000, symbol_size: 1024, num_source_blocks: 2, num_sub_blocks: 3, symbol_alignment: 8 };
-    let theirs = raptorq::ObjectTransmissionInformation::new(10000, 1024, 2, 3, 8).serialize();
-    assert_eq!(ObjectTransmissionInformation::read(&theirs), Ok(info));
-    assert_eq!(ObjectTransmissionInformation::read(&theirs[1..]), Err(Refusal::WrongLength));
+    let sent = [0, 0, 0, 0x27, 0x10, 0, 4, 0, 2, 0, 3, 8];
+    assert_eq!(ObjectTransmissionInformation::read(&sent), Ok(info));
+    assert_eq!(ObjectTransmissionInformation::read(&sent[1..]), Err(Refusal::WrongLength));
     let mut store = [9; 14];
     assert_eq!(info.write(&mut store), Ok(()));
-    assert_eq!((&store[..ObjectTransmissionInformation::SIZE], &store[12..]), (&theirs[..], &[9, 9][..]));
+    assert_eq!((&store[..ObjectTransmissionInformation::SIZE], &store[12..]), (&sent[..], &[9, 9][..]));
     assert_eq!(info.write(&mut store[..11]), Err(Refusal::WrongLength));
     let long = ObjectTransmissionInformation { transfer_length: 1 << 40, ..info };
     assert_eq!(long.write(&mut []), Err(Refusal::OutOfRange));
@@ -107,13 +128,13 @@ fn transmission_information_is_read_written_and_checked() {
 #[test]
 fn packets_are_taken_apart_and_put_together() {
     let id = PayloadId { source_block_number: 1, encoding_symbol_id: 70000 };
-    let theirs = raptorq::EncodingPacket::new(raptorq::PayloadId::new(1, 70000), bytes(10)).serialize();
-    assert_eq!(read_packet(&theirs), Ok((id, &bytes(10)[..])));
-    assert_eq!(read_packet(&theirs[..4]), Ok((id, &[][..])));
-    assert_eq!(read_packet(&theirs[..3]), Err(Refusal::WrongLength));
+    let sent = [&[1, 1, 0x11, 0x70][..], &bytes(10)].concat();
+    assert_eq!(read_packet(&sent), Ok((id, &bytes(10)[..])));
+    assert_eq!(read_packet(&sent[..4]), Ok((id, &[][..])));
+    assert_eq!(read_packet(&sent[..3]), Err(Refusal::WrongLength));
     let mut store = [9; 15];
     assert_eq!(write_packet(id, &bytes(10), &mut store), Ok(()));
-    assert_eq!((&store[..14], store[14]), (&theirs[..], 9));
+    assert_eq!((&store[..14], store[14]), (&sent[..], 9));
     let before = store;
     assert_eq!(write_packet(id, &bytes(12), &mut store), Err(Refusal::WrongLength));
     assert_eq!(write_packet(PayloadId { encoding_symbol_id: u32::MAX, ..id }, &[], &mut store), Err(Refusal::BadCount));
@@ -121,12 +142,9 @@ fn packets_are_taken_apart_and_put_together() {
 }
 
 #[test]
-fn partitions_are_the_crates() {
-    for (i, j) in [(10, 3), (0, 5), (9766, 2), (7, 7), (5, 12), (1 << 24, 255)] {
-        let (long_size, short_size, long, short) = raptorq::partition(i, j);
-        assert_eq!(partition(i, j), Ok(Parts { long_size, short_size, long, short }));
-    }
+fn partitions_are_those_of_document_01() {
     assert_eq!(partition(10, 3), Ok(Parts { long_size: 4, short_size: 3, long: 1, short: 2 }));
+    assert_eq!(partition(0, 5), Ok(Parts { long_size: 0, short_size: 0, long: 0, short: 5 }));
     assert_eq!(partition(5, 0), Err(Refusal::OutOfRange));
 }
 
@@ -144,20 +162,21 @@ fn rows_and_tables_are_checked() {
 }
 
 #[test]
-fn generators_are_the_crates() {
-    let tables = Tables::published();
-    for (y, i, m) in [(1, 0, 1 << 20), (70000, 3, 2), (0xFFFF_FF00, 5, 11), (12345, 1, 1)] {
-        assert_eq!(rand(tables, y, i, m), Ok(raptorq::rng::rand(y, i, m)));
+fn generators_are_those_of_document_01() {
+    let (tables, plain) = (Tables::published(), Tables::published().numbers());
+    for (y, i, m) in [(1, 0, 1 << 20), (70000, 3, 2), (u32::MAX, 255, 11), (12345, 1, 1)] {
+        let entries = y.to_le_bytes().into_iter().zip(plain.chunks(256)).map(|(byte, table)| table[usize::from(byte.wrapping_add(i))]);
+        assert_eq!(rand(tables, y, i, m), Ok(entries.fold(0, |sum, entry| sum ^ entry) % m));
     }
     assert_eq!(rand(tables, 1, 1, 0), Err(Refusal::OutOfRange));
-    for v in [0, 5242, 5243, 500_000, 1_017_661, 1_048_575] {
-        assert_eq!((deg(v, 100), deg(v, 17)), (Ok(raptorq::base::deg(v, 100)), Ok(raptorq::base::deg(v, 17))));
-    }
+    assert_eq!([5242, 5243, 1_017_661, 1_048_575].map(|v| deg(v, 100)), [Ok(1), Ok(2), Ok(29), Ok(30)]);
+    assert_eq!((deg(1_048_575, 17), deg(1_048_575, 2)), (Ok(15), Ok(0)));
     assert_eq!((deg(1 << 20, 100), deg(5, 1)), (Err(Refusal::OutOfRange), Err(Refusal::OutOfRange)));
-    for x in 0..500 {
-        let (d, a, b, d1, a1, b1) = raptorq::base::intermediate_tuple(x, 17, 254, 11);
-        assert_eq!(tuple(row(), tables, Isi::of_row(x)), Tuple { d, a, b, d1, a1, b1 });
-    }
+    // Of ISI 1 y is 2924914.
+    let (of_y, of_x) = (|i, m| rand(tables, 2_924_914, i, m).unwrap(), |i, m| rand(tables, 1, i, m).unwrap());
+    let (d, a, b) = (deg(of_y(0, 1 << 20), 17).unwrap(), 1 + of_y(1, 16), of_y(2, 17));
+    let (d1, a1, b1) = (if d < 4 { 2 + of_x(3, 2) } else { 2 }, 1 + of_x(4, 10), of_x(5, 11));
+    assert_eq!(tuple(row(), tables, Isi::of_row(1)), Tuple { d, a, b, d1, a1, b1 });
 }
 
 #[test]
@@ -206,67 +225,69 @@ fn slab_calls_refuse() {
     assert_eq!(store, before);
 }
 
-/// The crate's matrix of 6 by 70, and its words.
-fn filled() -> (DenseBinaryMatrix, Vec<u64>) {
-    let mut theirs = DenseBinaryMatrix::new(6, 70, 0);
-    for (at, byte) in bytes(420).into_iter().enumerate() {
-        theirs.set(at / 70, at % 70, if byte > 127 { Octet::one() } else { Octet::zero() });
-    }
-    let words = theirs.elements.clone();
-    (theirs, words)
-}
-
 const M: Shape = Shape { height: 6, width: 70 };
 
+/// The words of a matrix of 6 by 70, stray bits 0.
+fn filled() -> Vec<u64> {
+    let words = bytes(96).chunks(8).map(|word| u64::from_le_bytes(word.try_into().unwrap())).collect::<Vec<_>>();
+    (0..12).map(|at| if at % 2 == 1 { words[at] & 63 } else { words[at] }).collect()
+}
+
+/// Row i, column j.
+fn one(words: &[u64], i: usize, j: usize) -> bool {
+    words[2 * i + j / 64] >> (j % 64) & 1 == 1
+}
+
 #[test]
-fn matrix_entries_are_the_crates() {
-    let (theirs, words) = filled();
+fn matrix_entries_are_bits() {
+    let words = filled();
     let mut ours = vec![u64::MAX; 13];
     assert_eq!((M.words(), Shape { width: 64, ..M }.words(), Shape { width: 65, ..M }.words()), (12, 6, 12));
     assert_eq!(matrix::new(&mut ours, M), Ok(()));
     assert_eq!((&ours[..12], ours[12]), (&[0; 12][..], u64::MAX));
     for (i, j) in (0..6).flat_map(|i| (0..70).map(move |j| (i, j))) {
-        let one = theirs.get(i, j) == Octet::one();
-        assert_eq!(matrix::get(&words, M, i, j), Ok(one));
+        assert_eq!(matrix::get(&words, M, i, j), Ok(one(&words, i, j)));
         assert_eq!(matrix::set(&mut ours, M, i, j, true), Ok(()));
         assert_eq!(matrix::get(&ours, M, i, j), Ok(true));
-        assert_eq!(matrix::set(&mut ours, M, i, j, one), Ok(()));
+        assert_eq!(matrix::set(&mut ours, M, i, j, one(&words, i, j)), Ok(()));
     }
     assert_eq!(ours[..12], words);
     let mut list = [9; 71];
     for i in 0..6 {
-        assert_eq!(matrix::count_ones(&words, M, i, 3..66), Ok(theirs.count_ones(i, 3, 66)));
-        let columns: Vec<u32> = (2..70).filter(|j| theirs.get(i, *j as usize) == Octet::one()).collect();
+        assert_eq!(matrix::count_ones(&words, M, i, 3..66), Ok((3..66).filter(|j| one(&words, i, *j)).count()));
+        let columns: Vec<u32> = (2..70).filter(|j| one(&words, i, *j as usize)).collect();
         assert_eq!(matrix::query_non_zero_columns(&words, M, i, 2, &mut list), Ok(&columns[..]));
         assert_eq!(list[68..], [9; 3]);
     }
     for j in 0..70 {
-        let rows: Vec<u32> = (1..5).filter(|i| theirs.get(*i as usize, j) == Octet::one()).collect();
+        let rows: Vec<u32> = (1..5).filter(|i| one(&words, *i as usize, j)).collect();
         assert_eq!(matrix::get_ones_in_column(&words, M, j, 1..5, &mut list[..4]), Ok(&rows[..]));
     }
 }
 
 #[test]
-fn matrix_changes_are_the_crates() {
-    let (mut theirs, mut ours) = filled();
-    theirs.swap_rows(1, 4);
+fn matrix_changes_are_those_of_plain_rust() {
+    let mut ours = filled();
+    let mut plain = ours.clone();
+    (plain[2], plain[3], plain[8], plain[9]) = (plain[8], plain[9], plain[2], plain[3]);
     assert_eq!(matrix::swap_rows(&mut ours, M, 1, 4), Ok(()));
-    assert_eq!(ours, theirs.elements);
-    theirs.swap_columns(3, 67, 2);
+    assert_eq!(ours, plain);
     assert_eq!(matrix::swap_columns(&mut ours, M, 3, 67, 2), Ok(()));
-    assert_eq!(ours, theirs.elements);
-    theirs.add_assign_rows(0, 5, 0);
+    for (i, j) in (0..6).flat_map(|i| (0..70).map(move |j| (i, j))) {
+        let from = [j, 67, 3][if i < 2 { 0 } else { usize::from(j == 3) + 2 * usize::from(j == 67) }];
+        assert_eq!(one(&ours, i, j), one(&plain, i, from));
+    }
+    plain = ours.clone();
+    (plain[0], plain[1]) = (plain[0] ^ plain[10], plain[1] ^ plain[11]);
     assert_eq!(matrix::add_assign_rows(&mut ours, M, 0, 5), Ok(()));
-    assert_eq!(ours, theirs.elements);
-    theirs.resize(5, 64);
-    let rest = ours[5..].to_vec();
+    assert_eq!(ours, plain);
     assert_eq!(matrix::resize(&mut ours, M, Shape { height: 5, width: 64 }), Ok(()));
-    assert_eq!((&ours[..5], &ours[5..]), (&theirs.elements[..5], &rest[..]));
+    assert_eq!(ours, [[0, 2, 4, 6, 8].map(|at| plain[at]).to_vec(), plain[5..].to_vec()].concat());
 }
 
 #[test]
 fn matrix_calls_refuse() {
-    let (_, words) = filled();
+    let words = filled();
     let mut ours = words.clone();
     let mut list = [9; 70];
     assert_eq!(matrix::new(&mut ours, Shape { height: 131_071, width: 0 }), Err(Refusal::OutOfRange));
@@ -301,21 +322,27 @@ fn walks_are_those_of_document_01() {
 }
 
 #[test]
-fn builders_are_the_crates() {
+fn builders_place_the_rows() {
     let tables = Tables::published();
-    let numbers: Vec<u32> = (0..25).collect();
-    let ids: Vec<Isi> = numbers.iter().map(|n| Isi::of_row(*n)).collect();
-    let (theirs, hdpc) = raptorq::constraint_matrix::generate_constraint_matrix::<DenseBinaryMatrix>(10, &numbers);
+    let ids: Vec<Isi> = (0..25).map(Isi::of_row).collect();
     let mut words = vec![u64::MAX; 43];
-    assert_eq!(constraints::constraint_matrix(row(), tables, &ids, &mut words), Ok(Shape { height: 42, width: 27 }));
-    assert_eq!((&words[..42], words[42]), (&theirs.elements[..42], u64::MAX));
+    let built = Shape { height: 42, width: 27 };
+    assert_eq!(constraints::constraint_matrix(row(), tables, &ids, &mut words), Ok(built));
+    let ones = |words: &[u64], shape, i| matrix::query_non_zero_columns(words, shape, i, 0, &mut [0; 27]).map(<[u32]>::to_vec).unwrap();
+    assert_eq!(ones(&words, built, 0), [0, 5, 6, 7, 10, 17, 18]);
+    assert!((7..17).all(|i| ones(&words, built, i).is_empty()) && words[42] == u64::MAX);
+    for (i, id) in ids.iter().enumerate() {
+        let mut walk = [0; 33];
+        let mut places = constraints::enc_indices(row(), tuple(row(), tables, *id), &mut walk).unwrap().to_vec();
+        places.sort();
+        assert_eq!(ones(&words, built, 17 + i), places);
+    }
+    let (mut short, without) = (vec![u64::MAX; 33], Shape { height: 32, width: 27 });
+    assert_eq!(constraints::constraint_matrix_no_hdpc(row(), tables, &ids, &mut short), Ok(without));
+    assert_eq!((&short[..7], &short[7..32], short[32]), (&words[..7], &words[17..42], u64::MAX));
     let mut octets = vec![9; 271];
     assert_eq!(constraints::hdpc_rows(row(), tables, &mut octets), Ok(()));
-    assert!((0..270).all(|at| octets[at] == hdpc.get(at / 27, at % 27).byte()) && octets[270] == 9);
-    let theirs = raptorq::constraint_matrix::generate_constraint_matrix_no_hdpc::<DenseBinaryMatrix>(10, &numbers);
-    words.fill(u64::MAX);
-    assert_eq!(constraints::constraint_matrix_no_hdpc(row(), tables, &ids, &mut words), Ok(Shape { height: 32, width: 27 }));
-    assert_eq!((&words[..32], words[32]), (&theirs.elements[..32], u64::MAX));
+    assert!((0..10).all(|i| (0..10).all(|j| octets[27 * i + 17 + j] == u8::from(i == j))) && octets[270] == 9);
 }
 
 #[test]

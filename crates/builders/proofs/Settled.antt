@@ -18,7 +18,7 @@ use Rattle.headers.specs.declared.row.Row.{Row}
 use Rattle.headers.proofs.Accepted.{l-is, ready}
 use Rattle.headers.proofs.Tuples.{bounded}
 use Rattle.stores.specs.Bits.{bit}
-use Rattle.stores.specs.Matrix.{made, rowWords, wordsOf}
+use Rattle.stores.specs.Matrix.{matrixOutcome, rowWords, wordsOf}
 use Rattle.stores.specs.declared.matrix.DenseBinaryMatrix.{DenseBinaryMatrix}
 use Rattle.stores.specs.declared.matrix.Made.{Made}
 use Rattle.stores.proofs.Bits.{bits-ext}
@@ -68,7 +68,7 @@ pub builds-only : {v isis : List ℕ} {r : Row} {zeros least : ℕ} {xs ys zs : 
     → (a ≡ b) × (ys ≡ zs)
 builds-only {v} {isis} {r} {zeros} {least} {xs} {ys} {zs} {a} {b} s t = (
   made-only a b (s .answer ∙ sym (t .answer)),
-  left-once (λ ws. Built v isis r zeros xs ws) (made a) xs ys zs (λ p q. built-once p q) (s .memory)
+  left-once (λ ws. Built v isis r zeros xs ws) (matrixOutcome a) xs ys zs (λ p q. built-once p q) (s .memory)
       (subst (λ (o : Outcome DenseBinaryMatrix). Left o xs zs (Built v isis r zeros xs zs)) (t .answer ∙ sym (s .answer)) (t .memory)),
 )
 

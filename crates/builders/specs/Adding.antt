@@ -2,11 +2,13 @@
 -- Assumes nothing.
 use mathlib.Core.Path.{_≡_}
 use mathlib.Core.List.{List}
-use Prim.Native.Nat.{ℕ, _/_, _<_, _≤_}
+use Prim.Native.Nat.{ℕ, _+_, _/_, _<_, _≤_}
 use lib.Dec.{eqb}
 use lib.ListN.{length, getD}
 use Rattle.field.specs.Choice.{pick}
 use Rattle.field.specs.Octet.{plus}
+use Rattle.field.specs.Sum.{sum}
+use Rattle.constraints.specs.Encoding.{enc}
 use Rattle.stores.specs.Matrix.{entry, rowWords, wordsOf}
 use Rattle.stores.specs.declared.matrix.DenseBinaryMatrix.{DenseBinaryMatrix}
 
@@ -24,3 +26,7 @@ pub record Lies (m : DenseBinaryMatrix) (xs : List ℕ) : Type 0 where
 -- f in row i, and 0 in the others
 abbrev pub only : ℕ → (ℕ → ℕ) → ℕ → ℕ → ℕ
 only i f r c = pick (eqb r i) (f c) 0
+
+-- the rows of the ISIs (5.3.3.4), from row `from` on
+abbrev pub encRows : List ℕ → List ℕ → (j w p p1 from : ℕ) → ℕ → ℕ → ℕ
+encRows v isis j w p p1 from r c = sum (length isis) (λ k. only (from + k) (enc v j w p p1 (getD isis k 0)) r c)

@@ -10,7 +10,7 @@ use Rattle.field.specs.Answer.{Outcome, given, unless, Left}
 use Rattle.field.specs.Choice.{pick}
 use Rattle.headers.specs.Row.{obeys, lOf}
 use Rattle.headers.specs.declared.row.Row.{Row}
-use Rattle.stores.specs.Matrix.{entry, made, rowWords, shape, wordsOf}
+use Rattle.stores.specs.Matrix.{entry, matrixOutcome, rowWords, shape, wordsOf}
 use Rattle.stores.specs.declared.matrix.DenseBinaryMatrix.{DenseBinaryMatrix}
 use Rattle.stores.specs.declared.matrix.Made.{Made}
 use Rattle.constraints.specs.Encoding.{encOf}
@@ -40,5 +40,5 @@ buildable r tables ids zeros least room =
     (unless (ltb room (wordsOf (shaped r zeros ids))) 8 (given (shaped r zeros ids))))))
 
 pub record Builds (v isis : List ℕ) (r : Row) (zeros least : ℕ) (xs ys : List ℕ) (a : Made) : Type 0 where
-  pub answer : made a ≡ buildable r (length v) (length isis) zeros least (length xs)
-  pub memory : Left (made a) xs ys (Built v isis r zeros xs ys)
+  pub answer : matrixOutcome a ≡ buildable r (length v) (length isis) zeros least (length xs)
+  pub memory : Left (matrixOutcome a) xs ys (Built v isis r zeros xs ys)

@@ -1,4 +1,5 @@
-// The two builders (constraint_matrix.rs of the crate). The ids are ISIs of any 32 bits. The HDPC rows, which logically replace the
+// Ported from constraint_matrix.rs of raptorq 2.0.1 (Apache-2.0) and changed.
+// The two builders. The ids are ISIs of any 32 bits. The HDPC rows, which logically replace the
 // rows S to S + H, come by a call of their own.
 ghost use mathlib.Core.Path.{_≡_};
 ghost use Prim.Native.Nat.{_+_, _≤_};
@@ -54,12 +55,12 @@ fn build(r: Row, tables: &[u32], isis: &[u32], ws: &mut [u64], zeros: u32, least
 }
 
 pub fn generate_constraint_matrix(r: Row, tables: &[u32], isis: &[u32], ws: &mut [u64]) -> Made
-    ensures { λ a. ⌜ Builds (now (tables .entry)) (now (isis .entry)) r (r .h) (r .k) (now (ws .entry)) (now (ws .exit)) a ⌝ }
+    ensures { λ a. ⌜ Builds (now (tables .entry)) (now (isis .entry)) r (r .h) (r .kp) (now (ws .entry)) (now (ws .exit)) a ⌝ }
 {
     if !row::obeys(r) {
         return Made::Refused(Refusal::BadRow);
     }
-    build(r, tables, isis, ws, r.h, r.k)
+    build(r, tables, isis, ws, r.h, r.kp)
 }
 
 // Without HDPC rows more ids are asked.
@@ -69,10 +70,10 @@ pub fn generate_constraint_matrix_no_hdpc(
     isis: &[u32],
     ws: &mut [u64],
 ) -> Made
-    ensures { λ a. ⌜ Builds (now (tables .entry)) (now (isis .entry)) r 0 (r .k + r .h) (now (ws .entry)) (now (ws .exit)) a ⌝ }
+    ensures { λ a. ⌜ Builds (now (tables .entry)) (now (isis .entry)) r 0 (r .kp + r .h) (now (ws .entry)) (now (ws .exit)) a ⌝ }
 {
     if !row::obeys(r) {
         return Made::Refused(Refusal::BadRow);
     }
-    build(r, tables, isis, ws, 0, r.k + r.h)
+    build(r, tables, isis, ws, 0, r.kp + r.h)
 }

@@ -3,6 +3,7 @@
 use lib.Dec.{T}
 use Rattle.field.specs.Octet.{doubled, copies, times, squares, inverse, over}
 use Rattle.field.specs.Sum.{sum, unit}
+use Rattle.field.specs.Ones.{ones}
 use Rattle.field.specs.Examples.{hold}
 use Rattle.headers.specs.Degree.{climb, degree}
 use Rattle.headers.specs.Prime.{clear, prime, seek, firstPrime}
@@ -12,5 +13,5 @@ use Rattle.constraints.specs.Ldpc.{adds, one, two, three, ldpc}
 use Rattle.constraints.specs.Examples.{examples}
 
 pub examples-hold : T (hold examples)
-unfolding doubled copies times squares inverse over sum unit climb degree clear prime seek firstPrime ceil ltPlaces land piPlaces places adds one two three ldpc
+unfolding doubled copies times squares inverse over sum unit ones climb degree clear prime seek firstPrime ceil ltPlaces land piPlaces places adds one two three ldpc
 examples-hold = tt

@@ -10,10 +10,10 @@ use lib.Arith.{digits-lt, digits-mod}
 use lib.ListN.{length, getD, set, length-set}
 use lib.Seq.{getD-set-same, getD-set-other}
 use Rattle.field.specs.Runs.{Written}
-use Rattle.constraints.specs.Grid.{cells, Room, Column, Filled}
+use Rattle.constraints.specs.Grid.{cells, GridRoom, Column, FilledFrom}
 
 -- the places of one column
-pub inside : {xs : List ℕ} {at h l c : ℕ} → Room xs at h l c → (i : ℕ) → i < h → at + i * l + c < length xs
+pub inside : {xs : List ℕ} {at h l c : ℕ} → GridRoom xs at h l c → (i : ℕ) → i < h → at + i * l + c < length xs
 inside {xs} {at} {h} {l} {c} m i b = omega (arith, digits-lt {q = i} {m = h} b (m .column), m .holds)
 
 pub column-only : (l i r c q : ℕ) → c < l → q < l → i * l + c ≡ r * l + q → c ≡ q
@@ -51,8 +51,8 @@ column-right {f} {xs} {ys} {at} {i} {l} {c} w b r =
 
 -- ---- all columns from c on
 
-pub filled-more : {g : ℕ → ℕ → ℕ} {f : ℕ → ℕ} {xs ys zs : List ℕ} {at h l c d : ℕ} → Filled g xs ys at h l d → d ≡ c + 1 → c < l
-    → Column f ys zs at h l c → ((r : ℕ) → r < h → f r ≡ g r c) → Filled g xs zs at h l c
+pub filled-more : {g : ℕ → ℕ → ℕ} {f : ℕ → ℕ} {xs ys zs : List ℕ} {at h l c d : ℕ} → FilledFrom g xs ys at h l d → d ≡ c + 1 → c < l
+    → Column f ys zs at h l c → ((r : ℕ) → r < h → f r ≡ g r c) → FilledFrom g xs zs at h l c
 filled-more {g} {f} {xs} {ys} {zs} {at} {h} {l} {c} {d} w q b u e =
     record {
       size = u .size ∙ w .size;
@@ -68,15 +68,15 @@ filled-more {g} {f} {xs} {ys} {zs} {at} {h} {l} {c} {d} w q b u e =
         let y : c ≡ k = omega arith in
         subst (λ (x : ℕ). getD zs (at + r * l + x) 0 ≡ g r x) y (u .part r hr ∙ e r hr)
 
-pub filled-self : {g : ℕ → ℕ → ℕ} {xs ys : List ℕ} {at h l c : ℕ} → Filled g xs ys at h l c → Filled g ys ys at h l c
+pub filled-self : {g : ℕ → ℕ → ℕ} {xs ys : List ℕ} {at h l c : ℕ} → FilledFrom g xs ys at h l c → FilledFrom g ys ys at h l c
 filled-self w = record { size = refl; part = w .part; low = λ k n. refl; high = λ k n. refl }
 
-pub filled-trans : {g : ℕ → ℕ → ℕ} {xs ys zs : List ℕ} {at h l c d : ℕ} → Filled g xs ys at h l c → Filled g ys zs at h l d → Filled g xs zs at h l d
+pub filled-trans : {g : ℕ → ℕ → ℕ} {xs ys zs : List ℕ} {at h l c d : ℕ} → FilledFrom g xs ys at h l c → FilledFrom g ys zs at h l d → FilledFrom g xs zs at h l d
 filled-trans u w =
     record { size = w .size ∙ u .size; part = w .part; low = λ k n. w .low k n ∙ u .low k n; high = λ k n. w .high k n ∙ u .high k n }
 
 -- with every column filled the rows are written
-pub filled-all : {g : ℕ → ℕ → ℕ} {xs ys : List ℕ} {at h l c : ℕ} → Filled g xs ys at h l c → c ≡ 0 → 0 < l → Written (cells l g) xs ys at (h * l)
+pub filled-all : {g : ℕ → ℕ → ℕ} {xs ys : List ℕ} {at h l c : ℕ} → FilledFrom g xs ys at h l c → c ≡ 0 → 0 < l → Written (cells l g) xs ys at (h * l)
 filled-all {g} {xs} {ys} {at} {h} {l} {c} w e p = record { size = w .size; part = here; low = w .low; high = w .high }
   where
     here : (k : ℕ) → k < h * l → getD ys (at + k) 0 ≡ g (k / l) (k % l)

@@ -19,7 +19,7 @@ use Rattle.field.specs.Sum.{sum, unit}
 use Rattle.field.proofs.Sums.{unit-same, unit-other, sum-zero, sum-last, sum-lt}
 use Rattle.headers.specs.Rand.{random}
 use Rattle.headers.proofs.Tuples.{random-lt}
-use Rattle.constraints.specs.Grid.{Filled}
+use Rattle.constraints.specs.Grid.{FilledFrom}
 use Rattle.constraints.specs.Hdpc.{either, first, second, mt, gamma, hdpc}
 
 gamma-high : (i j : ℕ) → i < j → gamma i j ≡ 0
@@ -145,7 +145,7 @@ hdpc-next v n h i c p b =
     ∙ sym (assoc (doubled (hdpc v n h i (c + 1))) (unit i (first v h c)) (unit i (second v h c)))
 
 -- what the code puts into column c, with all columns from c + 1 on filled
-pub next-is : (v : List ℕ) (n h c : ℕ) {xs ys : List ℕ} {at d r a b : ℕ} → Filled (hdpc v n h) xs ys at h (n + h) d → d ≡ c + 1
+pub next-is : (v : List ℕ) (n h c : ℕ) {xs ys : List ℕ} {at d r a b : ℕ} → FilledFrom (hdpc v n h) xs ys at h (n + h) d → d ≡ c + 1
     → 2 ≤ h → d < n → r < h → a ≡ first v h c → b ≡ second v h c
     → plus (plus (doubled (getD ys (at + r * (n + h) + c + 1) 0)) (unit r a)) (unit r b) ≡ hdpc v n h r c
 next-is v n h c {xs} {ys} {at} {d} {r} {a} {b} w e p q hr ea eb =

@@ -10,7 +10,7 @@ use Rattle.field.specs.Answer.{Outcome, Left, done, given, unless}
 use Rattle.field.specs.Choice.{both}
 use Rattle.field.specs.Runs.{Written}
 use Rattle.headers.specs.Bytes.{Laid}
-use Rattle.headers.specs.Number.{outcome}
+use Rattle.headers.specs.Number.{numberOutcome}
 use Rattle.headers.specs.Row.{obeys, between, lOf, pOf, p1Of}
 use Rattle.field.specs.declared.refusal.Answer as Plain
 use Rattle.headers.specs.declared.number.Number.{Number}
@@ -41,8 +41,8 @@ indices r t room =
 
 -- the places at the front of the list, or the list as it was
 pub record Walked (r : Row) (t : Tuple) (xs ys : List ℕ) (a : Number) : Type 0 where
-  pub answer : outcome a ≡ indices r t (length xs)
-  pub memory : Left (outcome a) xs ys (Laid (placesOf r t) xs ys 0)
+  pub answer : numberOutcome a ≡ indices r t (length xs)
+  pub memory : Left (numberOutcome a) xs ys (Laid (placesOf r t) xs ys 0)
 
 -- may the HDPC rows be written? A row that breaks its rules, tables that are not 1,024 numbers, too short a store
 abbrev pub hdpcRoom : Row → ℕ → ℕ → Outcome (Unit {0})
@@ -50,6 +50,6 @@ hdpcRoom r tables room =
     unless (not (obeys r)) 4 (unless (not (eqb tables 1024)) 5 (unless (ltb room (r .h * lOf r)) 8 (given tt)))
 
 -- H rows of L octets at the front of the store, or the store as it was
-pub record Rows (v : List ℕ) (r : Row) (xs ys : List ℕ) (a : Plain.Answer) : Type 0 where
+pub record HdpcRows (v : List ℕ) (r : Row) (xs ys : List ℕ) (a : Plain.Answer) : Type 0 where
   pub answer : done a ≡ hdpcRoom r (length v) (length xs)
   pub memory : Left (done a) xs ys (Written (cells (lOf r) (hdpcOf v r)) xs ys 0 (r .h * lOf r))

@@ -10,7 +10,7 @@ abbrev pub cells : ℕ → (ℕ → ℕ → ℕ) → ℕ → ℕ
 cells l g k = g (k / l) (k % l)
 
 -- a store holds h rows from `at` on, and c is a column
-pub record Room (xs : List ℕ) (at h l c : ℕ) : Type 0 where
+pub record GridRoom (xs : List ℕ) (at h l c : ℕ) : Type 0 where
   pub holds : at + h * l ≤ length xs
   pub column : c < l
 
@@ -21,7 +21,7 @@ pub record Column (f : ℕ → ℕ) (xs ys : List ℕ) (at h l c : ℕ) : Type 0
   pub others : (k : ℕ) → ((r : ℕ) → r < h → k ≡ at + r * l + c → ⊥) → getD ys k 0 ≡ getD xs k 0
 
 -- ys has g in the h rows from column c on, and what xs has before and past them
-pub record Filled (g : ℕ → ℕ → ℕ) (xs ys : List ℕ) (at h l c : ℕ) : Type 0 where
+pub record FilledFrom (g : ℕ → ℕ → ℕ) (xs ys : List ℕ) (at h l c : ℕ) : Type 0 where
   pub size : length ys ≡ length xs
   pub part : (r q : ℕ) → r < h → q < l → c ≤ q → getD ys (at + r * l + q) 0 ≡ g r q
   pub low : (k : ℕ) → k < at → getD ys k 0 ≡ getD xs k 0

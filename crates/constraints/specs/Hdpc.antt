@@ -35,4 +35,4 @@ hdpc v n h i c = pick (ltb c n) (sum n (λ k. times (mt v n h i k) (gamma k c)))
 
 -- row i, column c, of a row of parameters
 abbrev pub hdpcOf : List ℕ → Row → ℕ → ℕ → ℕ
-hdpcOf v r = hdpc v (r .k + r .s) (r .h)
+hdpcOf v r = hdpc v (r .kp + r .s) (r .h)

@@ -1,8 +1,9 @@
-// What a caller asks of the constraint rows (constraint_matrix.rs of the crate).
+// Ported from constraint_matrix.rs of raptorq 2.0.1 (Apache-2.0) and changed.
+// What a caller asks of the constraint rows.
 ghost use Prim.Native.Nat.{_<_};
 ghost use Rattle.headers.specs.Told.{Told};
 ghost use Rattle.headers.specs.Tuples.{Bounds};
-ghost use Rattle.constraints.specs.Answers.{Rows, Walked};
+ghost use Rattle.constraints.specs.Answers.{HdpcRows, Walked};
 use crate::beneath::hdpc;
 use crate::beneath::walk;
 use field::refusal;
@@ -75,7 +76,7 @@ pub fn enc_indices(r: Row, t: Tuple, list: &mut [u32]) -> Number
 
 // H rows of L octets, row after row.
 pub fn generate_hdpc_rows(r: Row, tables: &[u32], out: &mut [u8]) -> refusal::Answer
-    ensures { λ a. ⌜ Rows (now (tables .entry)) r (now (out .entry)) (now (out .exit)) a ⌝ }
+    ensures { λ a. ⌜ HdpcRows (now (tables .entry)) r (now (out .entry)) (now (out .exit)) a ⌝ }
 {
     if !row::obeys(r) {
         return refusal::Answer::Refused(Refusal::BadRow);
@@ -83,7 +84,7 @@ pub fn generate_hdpc_rows(r: Row, tables: &[u32], out: &mut [u8]) -> refusal::An
     if tables.len() != 1024 {
         return refusal::Answer::Refused(Refusal::BadTables);
     }
-    let n = (r.k + r.s) as usize;
+    let n = (r.kp + r.s) as usize;
     let h = r.h as usize;
     if out.len() < h * (n + h) {
         return refusal::Answer::Refused(Refusal::WrongLength);

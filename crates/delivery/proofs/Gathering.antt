@@ -86,7 +86,7 @@ module _ (d : List ℕ) (t i from : ℕ) (some : 0 < t) (e : from ≡ packetAt t
       written-is (written-then w (written-from v (omega arith)) octet) (next i t)
 
 -- the source symbol of one ESI more
-module _ (v : List ℕ) (r : Row) (k t i from : ℕ) (C ys : List ℕ) (o : Obeys r) (all : length v ≡ 1024) (h : k ≤ r .k)
+module _ (v : List ℕ) (r : Row) (k t i from : ℕ) (C ys : List ℕ) (o : Obeys r) (all : length v ≡ 1024) (h : k ≤ r .kp)
     (below : i < k) (some : 0 < t) (have : lOf r * t ≤ length C) (e : from ≡ i * t) (inside : from + t ≤ length ys) where
   long : length (take t (drop from ys)) ≡ t
   long = part-length ys from t inside
@@ -97,19 +97,19 @@ module _ (v : List ℕ) (r : Row) (k t i from : ℕ) (C ys : List ℕ) (o : Obey
     all = all;
     k-low = omega arith;
     k-high = h;
-    sent = omega (arith, o .ranges .k-16);
+    esi-24 = omega (arith, o .ranges .kp-16);
     some = λ q. absurd (omega arith);
     enough = have;
     fits = omega (arith, long);
   }
 
-  encodes-it : {zs : List ℕ} {a : Plain.Answer} → Encodes v r k t i C (take t (drop from ys)) zs a → Written (encoded v r (shifted i k (r .k)) t C) (take t (drop from ys)) zs 0 t
+  encodes-it : {zs : List ℕ} {a : Plain.Answer} → Encodes v r k t i C (take t (drop from ys)) zs a → Written (encoded v r (shifted i k (r .kp)) t C) (take t (drop from ys)) zs 0 t
   encodes-it {zs} u =
-      subst (λ (p : Outcome (Unit {0})). Left p (take t (drop from ys)) zs (Written (encoded v r (shifted i k (r .k)) t C) (take t (drop from ys)) zs 0 t)) (encodes-done may u) (u .memory)
+      subst (λ (p : Outcome (Unit {0})). Left p (take t (drop from ys)) zs (Written (encoded v r (shifted i k (r .kp)) t C) (take t (drop from ys)) zs 0 t)) (encodes-done may u) (u .memory)
 
-  octet-is : (x : ℕ) → x < t → encoded v r (shifted i k (r .k)) t C x ≡ sourceOctet v r t C (i * t + x)
+  octet-is : (x : ℕ) → x < t → encoded v r (shifted i k (r .kp)) t C x ≡ sourceOctet v r t C (i * t + x)
   octet-is x l =
-      ap (λ (n : ℕ). encoded v r n t C x) (shifted-below k (r .k) i below)
+      ap (λ (n : ℕ). encoded v r n t C x) (shifted-below k (r .kp) i below)
       ∙ ap₂ (λ (n y : ℕ). encoded v r n t C y) (sym (digits-div i l)) (sym (digits-mod i l))
 
   pub block-more : {xs zs : List ℕ} {a : Plain.Answer} → Written (sourceOctet v r t C) xs ys 0 (i * t) → Encodes v r k t i C (take (from + t - from) (drop from ys)) zs a

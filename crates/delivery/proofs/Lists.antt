@@ -19,11 +19,11 @@ use Rattle.io.specs.Digits.{digits, Fewest}
 use Rattle.delivery.specs.Words.{Line, ascii, openWords}
 
 abbrev row : ℕ → ℕ → ℕ → ℕ → ℕ → Row
-row k j s h w = record { k = k; j = j; s = s; h = h; w = w }
+row k j s h w = record { kp = k; j = j; s = s; h = h; w = w }
 
-pub row-is : {q r : Row} → q .k ≡ r .k → q .j ≡ r .j → q .s ≡ r .s → q .h ≡ r .h → q .w ≡ r .w → q ≡ r
+pub row-is : {q r : Row} → q .kp ≡ r .kp → q .j ≡ r .j → q .s ≡ r .s → q .h ≡ r .h → q .w ≡ r .w → q ≡ r
 row-is {q} {r} k j s h w =
-    ap₂ (λ (x y : ℕ). row x y (q .s) (q .h) (q .w)) k j ∙ ap₂ (λ (x y : ℕ). row (r .k) (r .j) x y (q .w)) s h ∙ ap (row (r .k) (r .j) (r .s) (r .h)) w
+    ap₂ (λ (x y : ℕ). row x y (q .s) (q .h) (q .w)) k j ∙ ap₂ (λ (x y : ℕ). row (r .kp) (r .j) x y (q .w)) s h ∙ ap (row (r .kp) (r .j) (r .s) (r .h)) w
 
 pub reach : {x m n : ℕ} → x ≤ m → m ≡ n → x ≤ n
 reach {x} h e = subst (λ (k : ℕ). x ≤ k) e h

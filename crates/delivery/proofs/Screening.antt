@@ -12,7 +12,7 @@ use lib.Dec.{eqb, ltb}
 use lib.ListN.{length}
 use Rattle.field.specs.Answer.{Outcome, given, refused, before}
 use Rattle.field.proofs.Refusals.{passed, passed-before}
-use Rattle.headers.specs.Headers.{checked, idAt}
+use Rattle.headers.specs.Headers.{infoChecked, idAt}
 use Rattle.headers.specs.Quotient.{ceil}
 use Rattle.headers.specs.Row.{Obeys, obeys, lOf}
 use Rattle.headers.specs.declared.row.Row.{Row}
@@ -56,7 +56,7 @@ one-block-tells d t (suc n) =
 
 pub size-low : (o : ObjectTransmissionInformation) → infoScreen o ≡ given tt → 0 < o .«symbol_size»
 size-low o e =
-    let s = passed-before (checked o) (shapeScreen o) tt e in
+    let s = passed-before (infoChecked o) (shapeScreen o) tt e in
     let p1 = passed (not (eqb (o .«num_source_blocks») 1)) 102 _ tt (s .2) in
     let p2 = passed (not (eqb (o .«num_sub_blocks») 1)) 102 _ tt (p1 .1) in
     let p3 = passed (eqb (o .«symbol_size») 0) 10 _ tt (p2 .1) in
@@ -66,7 +66,7 @@ size-low o e =
 pub record RowSound (r : Row) (k t : ℕ) : Type 0 where
   pub rules : Obeys r
   pub k-low : 1 ≤ k
-  pub k-high : k ≤ r .k
+  pub k-high : k ≤ r .kp
   pub t-high : t ≤ 1024
   pub l-high : lOf r ≤ 300
 
@@ -74,13 +74,13 @@ pub row-sound : (r : Row) (k t : ℕ) → rowScreen r k t ≡ given tt → RowSo
 row-sound r k t e =
     let p1 = passed (not (obeys r)) 4 _ tt e in
     let p2 = passed (ltb k 1) 9 _ tt (p1 .1) in
-    let p3 = passed (ltb (r .k) k) 9 _ tt (p2 .1) in
+    let p3 = passed (ltb (r .kp) k) 9 _ tt (p2 .1) in
     let p4 = passed (ltb 1024 t) 101 _ tt (p3 .1) in
     let p5 = passed (ltb 300 (lOf r)) 101 _ tt (p4 .1) in
     record {
       rules = obeys-tells r .passes (not-false (obeys r) (p1 .0));
       k-low = ltb-false k 1 (p2 .0);
-      k-high = ltb-false (r .k) k (p3 .0);
+      k-high = ltb-false (r .kp) k (p3 .0);
       t-high = ltb-false 1024 t (p4 .0);
       l-high = ltb-false 300 (lOf r) (p5 .0);
     }

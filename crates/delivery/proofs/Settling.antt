@@ -73,7 +73,7 @@ module _ {r : Row} {v : List ℕ} {k t : ℕ} {es xs : List ℕ} (h : Holdable r
         eq-eqb (length v) 1024 (h .tables),
         n,
         le-ltb k 1 (h .k-low),
-        le-ltb (r .k) k (h .k-high),
+        le-ltb (r .kp) k (h .k-high),
         le-ltb 65535 (length es) (omega (arith, h .few)),
         ne-eqb t 0 (omega (arith, h .t-low)),
         eq-eqb (length xs) (length es * t) (h .whole),
@@ -114,7 +114,7 @@ module _ (d : List ℕ) (h : Sound d) where
   t-16 e = omega (arith, h .row .t-high)
 
   pub k-32 : {k : ℕ} → k ≡ kOf d → k < 2 ^ 32
-  k-32 e = omega (arith, h .row .k-high, h .row .rules .ranges .k-16)
+  k-32 e = omega (arith, h .row .k-high, h .row .rules .ranges .kp-16)
 
 module _ (d : List ℕ) (h : Sound d) {t n : ℕ} (et : t ≡ tOf d) (en : n ≡ countOf (length d) t) where
   pub count-is : n ≡ nOf d

@@ -27,7 +27,7 @@ sourceOctet v r t C x = encoded v r (x / t) t C (x % t)
 pub record Rebuildable (r : Row) (v : List ℕ) (k t : ℕ) (C xs : List ℕ) : Type 0 where
   pub rules : Obeys r
   pub tables : length v ≡ 1024
-  pub k-high : k ≤ r .k
+  pub k-high : k ≤ r .kp
   pub t-low : 0 < t
   pub symbols : lOf r * t ≤ length C
   pub room : k * t ≤ length xs
@@ -37,7 +37,7 @@ pub record Holdable (r : Row) (v : List ℕ) (k t : ℕ) (es xs : List ℕ) : Ty
   pub rules : Obeys r
   pub tables : length v ≡ 1024
   pub k-low : 1 ≤ k
-  pub k-high : k ≤ r .k
+  pub k-high : k ≤ r .kp
   pub t-low : 0 < t
   pub t-high : t ≤ 1024
   pub l-high : lOf r ≤ 300

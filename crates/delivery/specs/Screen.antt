@@ -7,7 +7,7 @@ use lib.Dec.{eqb, ltb}
 use lib.ListN.{length}
 use Rattle.field.specs.Answer.{Outcome, given, refused, unless, before, numberOf}
 use Rattle.field.specs.Choice.{both}
-use Rattle.headers.specs.Headers.{checked, idAt}
+use Rattle.headers.specs.Headers.{infoChecked, idAt}
 use Rattle.headers.specs.Row.{obeys, lOf}
 use Rattle.headers.specs.declared.row.Row.{Row}
 use Rattle.headers.specs.declared.transmission.ObjectTransmissionInformation.{ObjectTransmissionInformation}
@@ -36,12 +36,12 @@ shapeScreen o =
 
 -- the rules of document 01, and these
 abbrev pub infoScreen : ObjectTransmissionInformation → Outcome (Unit {0})
-infoScreen o = before (checked o) (shapeScreen o)
+infoScreen o = before (infoChecked o) (shapeScreen o)
 
 -- the rules of a row, K from 1 to K', and what the stores of this program hold
 abbrev pub rowScreen : Row → ℕ → ℕ → Outcome (Unit {0})
 rowScreen r k t =
-    unless (not (obeys r)) 4 (unless (ltb k 1) 9 (unless (ltb (r .k) k) 9 (unless (ltb 1024 t) 101 (unless (ltb 300 (lOf r)) 101 (given tt)))))
+    unless (not (obeys r)) 4 (unless (ltb k 1) 9 (unless (ltb (r .kp) k) 9 (unless (ltb 1024 t) 101 (unless (ltb 300 (lOf r)) 101 (given tt)))))
 
 -- all of the tables, not too many equations, and whole packets: of `len` bytes, with `fixed` equations beside those of the packets
 abbrev pub lengthScreen : ℕ → ℕ → ℕ → Outcome (Unit {0})

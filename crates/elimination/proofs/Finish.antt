@@ -15,11 +15,11 @@ use Rattle.elimination.specs.declared.beneath.eliminate.Progress.{Progre
 use Rattle.elimination.specs.declared.beneath.eliminate.Progress.the-variants as Progresses
 use Rattle.elimination.specs.declared.verdict.Verdict.{Verdict}
 use Rattle.elimination.specs.declared.verdict.Verdict.the-variants.{Solved, Contradiction, Open}
-use Rattle.elimination.specs.Steps.{Room, Pivots, Stands, Due, Ended}
+use Rattle.elimination.specs.Steps.{StoresRoom, Pivots, Stands, Due, Ended}
 use Rattle.elimination.specs.Verdict.{Means}
 
 -- the symbols of the held rows can be read
-pub due : (M L T : ℕ) (ps a d : List ℕ) (p : Progress) → Room M L T a d → Pivots L ps → Stands M L T ps a d p → Due L T ps d p
+pub due : (M L T : ℕ) (ps a d : List ℕ) (p : Progress) → StoresRoom M L T a d → Pivots L ps → Stands M L T ps a d p → Due L T ps d p
 due M L T ps a d (Progresses.Held r) room places held = record {
   columns = stepped-columns (held .stepped);
   pivots = omega (arith, rank-at-most (held .stepped), places .enough);

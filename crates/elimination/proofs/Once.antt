@@ -5,7 +5,7 @@ use mathlib.Core.List.{List}
 use Prim.Native.Nat.{ℕ}
 use Rattle.field.proofs.Writing.{written-once}
 use Rattle.linear.specs.System.{System}
-use Rattle.linear.specs.Bytes.{Bytes, stored, OctetSymbols}
+use Rattle.linear.specs.Bytes.{Bytes, storedSystem, OctetSymbols}
 use Rattle.linear.specs.Elimination.{Holds}
 use Rattle.linear.proofs.AnswersBytes.{shortfall-bytes-once, solved-bytes-not-contradiction, open-bytes-not-contradiction, solved-bytes-not-open}
 use Rattle.linear.proofs.Keeping.{holds-included}
@@ -39,16 +39,16 @@ means-once L T S o o₁ o₂ v w a b =
     (e, store-once L T S o o₁ o₂ v a (subst (λ (x : Verdict). Means L T S o o₂ x) (sym e) b))
 
 -- two stores of octets hold the equations that stand in them
-pub holds-stored : (M L T : ℕ) (a d : List ℕ) → Holds M L T (stored M L T a d) a d
+pub holds-stored : (M L T : ℕ) (a d : List ℕ) → Holds M L T (storedSystem M L T a d) a d
 holds-stored M L T a d = holds-included (λ i h. (i, h, record { coefs = λ c l. refl; bytes = λ t l. refl })) (λ i h. (i, h, record { coefs = λ c l. refl; bytes = λ t l. refl }))
 
-pub stored-octets : (M L T : ℕ) (a d : List ℕ) → Bytes d → OctetSymbols T (stored M L T a d)
+pub stored-octets : (M L T : ℕ) (a d : List ℕ) → Bytes d → OctetSymbols T (storedSystem M L T a d)
 stored-octets M L T a d b = record { below = λ i h t l. b _ }
 
 -- the verdict, the out store and both stores: lent stores hold octets, and that is all that is asked
 pub answered-once : (M L T : ℕ) {a d o a₁ d₁ o₁ a₂ d₂ o₂ : List ℕ} {v w : Verdict} → Bytes d
     → Answered M L T a d o a₁ d₁ o₁ v → Answered M L T a d o a₂ d₂ o₂ w → (v ≡ w) × (o₁ ≡ o₂) × (a₁ ≡ a₂) × (d₁ ≡ d₂)
 answered-once M L T {a} {d} {o} {a₁} {d₁} {o₁} {a₂} {d₂} {o₂} {v} {w} b x y =
-    let S : System ℕ = stored M L T a d in
+    let S : System ℕ = storedSystem M L T a d in
     let e = means-once L T S o o₁ o₂ v w (x .answer S (stored-octets M L T a d b) (holds-stored M L T a d)) (y .answer S (stored-octets M L T a d b) (holds-stored M L T a d)) in
     (e .0, e .1, written-once (x .rows) (y .rows), written-once (x .symbols) (y .symbols))

@@ -9,12 +9,12 @@ use native.Mathlib.Decide.{decLt}
 use native.Mathlib.Omega.{arith}
 use lib.ListN.{length, getD}
 use Rattle.linear.specs.Bytes.{cell}
-use Rattle.elimination.specs.Steps.{Room, FirstOther, Passed, Clashes, column}
+use Rattle.elimination.specs.Steps.{StoresRoom, FirstOther, Passed, Clashes, column}
 
-pub room-kept : {n L T : ℕ} {a d a₁ d₁ : List ℕ} → Room n L T a d → length a₁ ≡ length a → length d₁ ≡ length d → Room n L T a₁ d₁
+pub room-kept : {n L T : ℕ} {a d a₁ d₁ : List ℕ} → StoresRoom n L T a d → length a₁ ≡ length a → length d₁ ≡ length d → StoresRoom n L T a₁ d₁
 room-kept h p q = record { rows = omega (arith, h .rows); symbols = omega (arith, h .symbols) }
 
-pub room-less : {n m L T : ℕ} {a d : List ℕ} → n ≤ m → Room m L T a d → Room n L T a d
+pub room-less : {n m L T : ℕ} {a d : List ℕ} → n ≤ m → StoresRoom m L T a d → StoresRoom n L T a d
 room-less {L = L} {T = T} l h = record { rows = omega (arith, h .rows, mul-le-mul-right L l); symbols = omega (arith, h .symbols, mul-le-mul-right T l) }
 
 -- a place of row i that is not 0, by its column

@@ -14,7 +14,7 @@ use Rattle.elimination.specs.declared.verdict.Verdict.{Verdict}
 use Rattle.elimination.specs.declared.verdict.Verdict.the-variants.{Solved, Contradiction, Open}
 
 -- the two stores hold n equations in L symbols of T octets
-pub record Room (n L T : ℕ) (a d : List ℕ) : Type 0 where
+pub record StoresRoom (n L T : ℕ) (a d : List ℕ) : Type 0 where
   pub rows : n * L ≤ length a
   pub symbols : n * T ≤ length d
 
@@ -67,17 +67,17 @@ Stands n L T ps a d (Progresses.Held r) = Held L T n r (column ps) a d
 Stands n L T ps a d Progresses.Clash = Clashes n L T a d
 
 -- the symbols of r held rows can be read, each with a column of its own
-pub record Ready (L T r : ℕ) (ps d : List ℕ) : Type 0 where
+pub record Readable (L T r : ℕ) (ps d : List ℕ) : Type 0 where
   pub columns : Columns L r (column ps)
   pub pivots : r ≤ length ps
   pub symbols : r * T ≤ length d
 
 abbrev pub Due : (L T : ℕ) (ps d : List ℕ) → Progress → Type 0
-Due L T ps d (Progresses.Held r) = Ready L T r ps d
+Due L T ps d (Progresses.Held r) = Readable L T r ps d
 Due L T ps d Progresses.Clash = Unit {0}
 
 -- nothing goes out, or the symbols of as many rows as there are columns do
-pub record Delivered (L T r : ℕ) (ps d o o₁ : List ℕ) : Type 0 where
+pub record PutOut (L T r : ℕ) (ps d o o₁ : List ℕ) : Type 0 where
   pub short : r < L → o₁ ≡ o
   pub full : L ≤ r → Gathered T r (column ps) d o₁ × OnlyBelow (L * T) o o₁
 

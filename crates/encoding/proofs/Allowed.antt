@@ -29,8 +29,8 @@ pub record Allowed (r : Row) (tables k t esi have room : ℕ) : Type 0 where
   pub rules : Obeys r
   pub all : tables ≡ 1024
   pub k-low : 1 ≤ k
-  pub k-high : k ≤ r .k
-  pub sent : esi < 16777216
+  pub k-high : k ≤ r .kp
+  pub esi-24 : esi < 16777216
   pub some : t ≡ 0 → ⊥
   pub enough : lOf r * t ≤ have
   pub fits : t ≤ room
@@ -41,21 +41,21 @@ allowed-well r tables k t esi have room e =
     let o7 : Outcome (Unit {0}) = unless (ltb have (lOf r * t)) 8 o8 in
     let o6 : Outcome (Unit {0}) = unless (eqb t 0) 10 o7 in
     let o5 : Outcome (Unit {0}) = unless (leb 16777216 esi) 9 o6 in
-    let o4 : Outcome (Unit {0}) = unless (not (between 1 k (r .k))) 9 o5 in
+    let o4 : Outcome (Unit {0}) = unless (not (between 1 k (r .kp))) 9 o5 in
     let p1 = passed (not (obeys r)) 4 (unless (not (eqb tables 1024)) 5 o4) tt e in
     let p2 = passed (not (eqb tables 1024)) 5 o4 tt (p1 .1) in
-    let p4 = passed (not (between 1 k (r .k))) 9 o5 tt (p2 .1) in
+    let p4 = passed (not (between 1 k (r .kp))) 9 o5 tt (p2 .1) in
     let p5 = passed (leb 16777216 esi) 9 o6 tt (p4 .1) in
     let p6 = passed (eqb t 0) 10 o7 tt (p5 .1) in
     let p7 = passed (ltb have (lOf r * t)) 8 o8 tt (p6 .1) in
     let p8 = passed (ltb room t) 8 (given tt) tt (p7 .1) in
-    let b = tells-both (tells-le 1 k) (tells-le k (r .k)) .passes (not-false (between 1 k (r .k)) (p4 .0)) in
+    let b = tells-both (tells-le 1 k) (tells-le k (r .kp)) .passes (not-false (between 1 k (r .kp)) (p4 .0)) in
     record {
       rules = obeys-tells r .passes (not-false (obeys r) (p1 .0));
       all = eqb-true tables 1024 (not-false (eqb tables 1024) (p2 .0));
       k-low = b .0;
       k-high = b .1;
-      sent = omega (arith, leb-false 16777216 esi (p5 .0));
+      esi-24 = omega (arith, leb-false 16777216 esi (p5 .0));
       some = eqb-false t 0 (p6 .0);
       enough = ltb-false have (lOf r * t) (p7 .0);
       fits = ltb-false room t (p8 .0);
@@ -64,7 +64,7 @@ allowed-well r tables k t esi have room e =
 -- and the other way round
 allowed-is : {r : Row} {tables k t esi have room : ℕ} → Allowed r tables k t esi have room → allowed r tables k t esi have room ≡ given tt
 allowed-is {r} {tables} {k} {t} {esi} {have} {room} h =
-    rw (obeyed (h .rules), eq-eqb tables 1024 (h .all), le-leb 1 k (h .k-low), le-leb k (r .k) (h .k-high), lt-leb 16777216 esi (h .sent), ne-eqb t 0 (h .some), le-ltb have (lOf r * t) (h .enough), le-ltb room t (h .fits))
+    rw (obeyed (h .rules), eq-eqb tables 1024 (h .all), le-leb 1 k (h .k-low), le-leb k (r .kp) (h .k-high), lt-leb 16777216 esi (h .esi-24), ne-eqb t 0 (h .some), le-ltb have (lOf r * t) (h .enough), le-ltb room t (h .fits))
 
 -- the generator gives no longer walk than the working list
 pub walk-fits : {r : Row} → Obeys r → (v : List ℕ) → length v ≡ 1024 → (x : ℕ) → steps (tupleOn v r x) ≤ 32
@@ -81,7 +81,7 @@ pub never-long : (v : List ℕ) (r : Row) (k t esi have room : ℕ) → encodes 
 never-long v r k t esi have room = go (allowed r (length v) k t esi have room) refl
   where
     x : ℕ
-    x = shifted esi k (r .k)
+    x = shifted esi k (r .kp)
 
     go : (o : Outcome (Unit {0})) → allowed r (length v) k t esi have room ≡ o → before o (unless (ltb 32 (steps (tupleOn v r x))) 8 (given tt)) ≡ o
     go (given u) e =

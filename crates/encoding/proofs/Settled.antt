@@ -22,7 +22,7 @@ use Rattle.encoding.specs.Encoded.{Encodes, encodes, encoded}
 pub encodes-only : {v : List ℕ} {r : Row} {k t esi : ℕ} {C xs ys zs : List ℕ} {p q : Plain.Answer}
     → Encodes v r k t esi C xs ys p → Encodes v r k t esi C xs zs q → (p ≡ q) × (ys ≡ zs)
 encodes-only {v} {r} {k} {t} {esi} {C} {xs} {ys} {zs} {p} {q} a b =
-    settled-written done done-only (encodes v r k t esi (length C) (length xs)) xs (encoded v r (shifted esi k (r .k)) t C) 0 t p q ys zs
+    settled-written done done-only (encodes v r k t esi (length C) (length xs)) xs (encoded v r (shifted esi k (r .kp)) t C) 0 t p q ys zs
     (a .answer, a .memory) (b .answer, b .memory)
 
 -- the equation i of S is that of the ISI x
@@ -36,6 +36,6 @@ encoded-fits v r x t C S f i h e o l = sum-same (lOf r) (λ c b. ap (λ (n : ℕ
 
 -- and a call that encodes its ESI from that set writes its symbol
 pub encoded-arrival : {v : List ℕ} {r : Row} {k t esi : ℕ} {C xs ys : List ℕ} (S : System ℕ) → Encodes v r k t esi C xs ys Plains.Done → FitsBytes (lOf r) t S C
-    → (i : ℕ) → i < S .count → RowOf v r S i (shifted esi k (r .k)) → (o : ℕ) → o < t → getD ys o 0 ≡ S .byte i o
+    → (i : ℕ) → i < S .count → RowOf v r S i (shifted esi k (r .kp)) → (o : ℕ) → o < t → getD ys o 0 ≡ S .byte i o
 encoded-arrival {v} {r} {k} {t} {esi} {C} {xs} {ys} S a f i h e o l =
-    ap (λ (n : ℕ). getD ys n 0) (sym (zero-add o)) ∙ a .memory .part o l ∙ encoded-fits v r (shifted esi k (r .k)) t C S f i h e o l
+    ap (λ (n : ℕ). getD ys n 0) (sym (zero-add o)) ∙ a .memory .part o l ∙ encoded-fits v r (shifted esi k (r .kp)) t C S f i h e o l

@@ -40,18 +40,18 @@ steps z = z .d + z .d1
 -- L * T octets, out below T
 abbrev pub allowed : Row → ℕ → ℕ → ℕ → ℕ → ℕ → ℕ → Outcome (Unit {0})
 allowed r tables k t esi have room =
-    unless (not (obeys r)) 4 (unless (not (eqb tables 1024)) 5 (unless (not (between 1 k (r .k))) 9 (unless (leb 16777216 esi) 9
+    unless (not (obeys r)) 4 (unless (not (eqb tables 1024)) 5 (unless (not (between 1 k (r .kp))) 9 (unless (leb 16777216 esi) 9
     (unless (eqb t 0) 10 (unless (ltb have (lOf r * t)) 8 (unless (ltb room t) 8 (given tt)))))))
 
 -- and a walk that is longer than the working list of 32 places
 abbrev pub encodes : List ℕ → Row → ℕ → ℕ → ℕ → ℕ → ℕ → Outcome (Unit {0})
 encodes v r k t esi have room =
-    before (allowed r (length v) k t esi have room) (unless (ltb 32 (steps (tupleOn v r (shifted esi k (r .k))))) 8 (given tt))
+    before (allowed r (length v) k t esi have room) (unless (ltb 32 (steps (tupleOn v r (shifted esi k (r .kp))))) 8 (given tt))
 
 -- the symbol at the front of the store, or the store as it was
 pub record Encodes (v : List ℕ) (r : Row) (k t esi : ℕ) (C xs ys : List ℕ) (a : Plain.Answer) : Type 0 where
   pub answer : done a ≡ encodes v r k t esi (length C) (length xs)
-  pub memory : Left (done a) xs ys (Written (encoded v r (shifted esi k (r .k)) t C) xs ys 0 t)
+  pub memory : Left (done a) xs ys (Written (encoded v r (shifted esi k (r .kp)) t C) xs ys 0 t)
 
 -- ---- what the functions beneath leave
 

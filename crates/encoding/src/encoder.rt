@@ -1,4 +1,4 @@
-// The symbol of an ESI from the intermediate symbols of its block (`enc` of the crate's encoder.rs).
+// The symbol of an ESI from the intermediate symbols of its block, written from RFC 6330 section 5.3.5.3 (`enc_into` in the crate's encoder.rs).
 ghost use mathlib.Core.Path.{_≡_};
 ghost use Rattle.field.specs.Answer.{done};
 ghost use Rattle.encoding.specs.Encoded.{Encodes, allowed};
@@ -32,7 +32,7 @@ fn check(
     if k < 1 {
         return refusal::Answer::Refused(Refusal::BadCount);
     }
-    if k > r.k {
+    if k > r.kp {
         return refusal::Answer::Refused(Refusal::BadCount);
     }
     if esi >= 16777216 {
@@ -66,7 +66,7 @@ pub fn encode(
     let refusal::Answer::Done = may else {
         return may;
     };
-    let x = beneath::isi_of(r.k, k, Esi(esi));
+    let x = beneath::isi_of(r.kp, k, Esi(esi));
     let p1 = row::p1(r);
     let z = tuple::intermediate_tuple(tables, x, r.w, r.j, p1);
     // The generator gives no such walk.

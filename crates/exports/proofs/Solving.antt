@@ -64,7 +64,7 @@ eight false o h = h
 pub no-rows : (r : Row) (tables k t n : ℕ) (large : Bool) (came a d o : ℕ) → fitting (solvable r tables k t n large came a d o) 0 1 ≡ solvable r tables k t n large came 0 d o
 no-rows r tables k t n large came a d o =
     past (not (obeys r)) 4 _ _ (λ e. past (not (eqb tables 1024)) 5 _ _ (λ _.
-    past large 9 _ _ (λ _. past (ltb k 1) 9 _ _ (λ _. past (ltb (r .k) k) 9 _ _ (λ _. past (ltb 65535 n) 9 _ _ (λ _.
+    past large 9 _ _ (λ _. past (ltb k 1) 9 _ _ (λ _. past (ltb (r .kp) k) 9 _ _ (λ _. past (ltb 65535 n) 9 _ _ (λ _.
     past (eqb t 0) 10 _ _ (λ _. past (not (eqb came (n * t))) 10 _ _ (λ _.
     eight (ltb a (equations r k n * lOf r)) _ (eight (ltb d (equations r k n * t)) _ (eight (ltb o (lOf r * t)) (given tt) refl))
     ∙ sym (rw (lt-ltb 0 (equations r k n * lOf r) (some e)) refl)))))))))

@@ -27,7 +27,7 @@ abbrev pub packetNumbers : PayloadId × ℕ × ℕ → List ℕ
 packetNumbers p = p .0 .«source_block_number» ∷ p .0 .«encoding_symbol_id» ∷ p .1 ∷ p .2 ∷ []
 
 abbrev pub row : ℕ → ℕ → ℕ → ℕ → ℕ → Row
-row k j s h w = record { k = k; j = j; s = s; h = h; w = w }
+row k j s h w = record { kp = k; j = j; s = s; h = h; w = w }
 
 abbrev pub sizeNumbers : Sizes → List ℕ
 sizeNumbers z = z .l ∷ z .p ∷ z .b ∷ z .p1 ∷ []

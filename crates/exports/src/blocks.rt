@@ -41,7 +41,7 @@ pub extern "C" fn spoonripple_encode(
     ensures { λ r. ⌜ Did (encodes (now (tables .entry)) (row k j s h w) count t esi (length (now (intermediates .entry))) (length (now (out .entry)))) (now (out .entry)) (now (out .exit))
         (Written (encoded (now (tables .entry)) (row k j s h w) (shifted esi count k) t (now (intermediates .entry))) (now (out .entry)) (now (out .exit)) 0 t) r ⌝ }
 {
-    let r = Row { k, j, s, h, w };
+    let r = Row { kp: k, j, s, h, w };
     told(encoder::encode(r, tables, count, t, esi, intermediates, out))
 }
 
@@ -102,7 +102,7 @@ pub extern "C" fn spoonripple_solve(
 ) -> u32
     ensures { λ n. ⌜ Solving (row k j s h w) (now (tables .entry)) count t (now (esis .entry)) (now (symbols .entry)) (now (rows .entry)) (now (values .entry)) (now (out .entry)) (now (shortfall .entry)) (now (rows .exit)) (now (values .exit)) (now (out .exit)) (now (shortfall .exit)) n ⌝ }
 {
-    let r = Row { k, j, s, h, w };
+    let r = Row { kp: k, j, s, h, w };
     if shortfall.len() < 1 {
         return unroomed(r, tables, count, t, esis, symbols, rows, values, out);
     }

@@ -3,7 +3,7 @@ ghost use mathlib.Core.Path.{_≡_};
 ghost use mathlib.Core.List.{_++_};
 ghost use lib.ListN.{length};
 ghost use Rattle.headers.specs.Bytes.{Laid};
-ghost use Rattle.headers.specs.Headers.{checked, idBytes, infoBytes, readId, readInfo, readPacket, roomForId, roomForInfo, roomForPacket};
+ghost use Rattle.headers.specs.Headers.{infoChecked, idBytes, infoBytes, readId, readInfo, readPacket, roomForId, roomForInfo, roomForPacket};
 ghost use Rattle.headers.specs.Partition.{partitioned};
 ghost use Rattle.exports.specs.Call.{Called, Did, code, listed, thenRoomed};
 ghost use Rattle.exports.specs.Numbers.{id, idNumbers, info, infoNumbers, packetNumbers};
@@ -85,7 +85,7 @@ pub extern "C" fn spoonripple_transmission_write(
 
 #[no_mangle]
 pub extern "C" fn spoonripple_transmission_check(f: u64, t: u16, z: u8, n: u16, al: u8) -> u32
-    ensures { λ r. ⌜ r ≡ code (checked (info f t z n al)) ⌝ }
+    ensures { λ r. ⌜ r ≡ code (infoChecked (info f t z n al)) ⌝ }
 {
     let o = ObjectTransmissionInformation {
         transfer_length: f,

@@ -5,7 +5,7 @@ ghost use lib.ListN.{length};
 ghost use Rattle.field.specs.Runs.{Written};
 ghost use Rattle.headers.specs.Bytes.{Laid};
 ghost use Rattle.headers.specs.Row.{lOf};
-ghost use Rattle.stores.specs.Matrix.{made};
+ghost use Rattle.stores.specs.Matrix.{matrixOutcome};
 ghost use Rattle.constraints.specs.Answers.{hdpcRoom, indices, placesOf};
 ghost use Rattle.constraints.specs.Grid.{cells};
 ghost use Rattle.constraints.specs.Hdpc.{hdpcOf};
@@ -40,7 +40,7 @@ pub extern "C" fn spoonripple_enc_indices(
     ensures { λ r. ⌜ Did (indices (row k j s h w) (tuple d a b d1 a1 b1) (length (now (list .entry)))) (now (list .entry)) (now (list .exit))
         (Laid (placesOf (row k j s h w) (tuple d a b d1 a1 b1)) (now (list .entry)) (now (list .exit)) 0) r ⌝ }
 {
-    let r = Row { k, j, s, h, w };
+    let r = Row { kp: k, j, s, h, w };
     let t = Tuple {
         d,
         a,
@@ -69,11 +69,11 @@ pub extern "C" fn spoonripple_hdpc_rows(
     ensures { λ r. ⌜ Did (hdpcRoom (row k j s h w) (length (now (tables .entry))) (length (now (store .entry)))) (now (store .entry)) (now (store .exit))
         (Written (cells (lOf (row k j s h w)) (hdpcOf (now (tables .entry)) (row k j s h w))) (now (store .entry)) (now (store .exit)) 0 (h * lOf (row k j s h w))) r ⌝ }
 {
-    told(rows::generate_hdpc_rows(Row { k, j, s, h, w }, tables, store))
+    told(rows::generate_hdpc_rows(Row { kp: k, j, s, h, w }, tables, store))
 }
 
 fn built(m: Made) -> u32
-    ensures { λ r. ⌜ r ≡ code (made m) ⌝ }
+    ensures { λ r. ⌜ r ≡ code (matrixOutcome m) ⌝ }
 {
     match m {
         Made::Matrix(_) => 0,
@@ -96,7 +96,7 @@ pub extern "C" fn spoonripple_constraint_matrix(
     ensures { λ r. ⌜ Did (buildable (row k j s h w) (length (now (tables .entry))) (length (now (isis .entry))) h k (length (now (words .entry)))) (now (words .entry)) (now (words .exit))
         (Built (now (tables .entry)) (now (isis .entry)) (row k j s h w) h (now (words .entry)) (now (words .exit))) r ⌝ }
 {
-    let r = Row { k, j, s, h, w };
+    let r = Row { kp: k, j, s, h, w };
     built(constraint_matrix::generate_constraint_matrix(r, tables, isis, words))
 }
 
@@ -115,6 +115,6 @@ pub extern "C" fn spoonripple_constraint_matrix_no_hdpc(
     ensures { λ r. ⌜ Did (buildable (row k j s h w) (length (now (tables .entry))) (length (now (isis .entry))) 0 (k + h) (length (now (words .entry)))) (now (words .entry)) (now (words .exit))
         (Built (now (tables .entry)) (now (isis .entry)) (row k j s h w) 0 (now (words .entry)) (now (words .exit))) r ⌝ }
 {
-    let r = Row { k, j, s, h, w };
+    let r = Row { kp: k, j, s, h, w };
     built(constraint_matrix::generate_constraint_matrix_no_hdpc(r, tables, isis, words))
 }

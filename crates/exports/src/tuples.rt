@@ -1,7 +1,7 @@
 // Rand, degrees, parameter rows, the shift and tuples (RFC 6330, sections 5.3.5, 5.5 and 5.6). A row is its five numbers K', J, S, H, W.
 ghost use Rattle.headers.specs.Degree.{answer as degreeAnswer};
 ghost use Rattle.headers.specs.Rand.{answer as randAnswer};
-ghost use Rattle.headers.specs.Row.{checked};
+ghost use Rattle.headers.specs.Row.{rowChecked};
 ghost use Rattle.headers.specs.Shift.{answer as shiftAnswer};
 ghost use Rattle.headers.specs.Tuples.{answer as tupleAnswer};
 ghost use Rattle.exports.specs.Call.{Called, listed, one, thenRoomed};
@@ -56,9 +56,9 @@ pub extern "C" fn spoonripple_row_check(
     w: u32,
     out: &mut [u64],
 ) -> u32
-    ensures { λ r. ⌜ Called (thenRoomed (now (out .entry)) (listed sizeNumbers (checked (row k j s h w)))) (now (out .entry)) (now (out .exit)) r ⌝ }
+    ensures { λ r. ⌜ Called (thenRoomed (now (out .entry)) (listed sizeNumbers (rowChecked (row k j s h w)))) (now (out .entry)) (now (out .exit)) r ⌝ }
 {
-    match row::check(Row { k, j, s, h, w }) {
+    match row::check(Row { kp: k, j, s, h, w }) {
         Checked::Value(z) => {
             let values = [z.l as u64, z.p as u64, z.b as u64, z.p1 as u64];
             hand(&values, out)
@@ -81,7 +81,7 @@ pub extern "C" fn spoonripple_isi(
 ) -> u32
     ensures { λ r. ⌜ Called (thenRoomed (now (out .entry)) (listed one (shiftAnswer (row k j s h w) count esi))) (now (out .entry)) (now (out .exit)) r ⌝ }
 {
-    match ids::isi_of(Row { k, j, s, h, w }, count, Esi(esi)) {
+    match ids::isi_of(Row { kp: k, j, s, h, w }, count, Esi(esi)) {
         Shifted::Value(x) => {
             let values = [ids::number(x) as u64];
             hand(&values, out)
@@ -105,7 +105,7 @@ pub extern "C" fn spoonripple_tuple(
     ensures { λ r. ⌜ Called (thenRoomed (now (out .entry)) (listed tupleNumbers (tupleAnswer (row k j s h w) (now (tables .entry)) isi))) (now (out .entry)) (now (out .exit)) r ⌝ }
 {
     let x = ids::beneath::row_number(isi);
-    match tuple::intermediate_tuple(Row { k, j, s, h, w }, tables, x) {
+    match tuple::intermediate_tuple(Row { kp: k, j, s, h, w }, tables, x) {
         Generated::Value(t) => {
             let values = [
                 t.d as u64,

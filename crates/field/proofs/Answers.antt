@@ -5,7 +5,7 @@ use Prim.Native.Nat.{ℕ}
 use native.Mathlib.Omega.{arith}
 use lib.Dec.{eqb}
 use Rattle.field.specs.Choice.{pick}
-use Rattle.field.specs.Answer.{Outcome, given, refused, numberOf, outcome}
+use Rattle.field.specs.Answer.{Outcome, given, refused, numberOf, octetOutcome}
 use Rattle.field.specs.declared.refusal.Refusal.{Refusal}
 use Rattle.field.specs.declared.refusal.Refusal.the-variants as Why
 use Rattle.field.specs.declared.octet.Answer.{Answer}
@@ -20,14 +20,18 @@ refused-only m n e = cc
 pub given-not-refused : {A : Type 0} (a : A) (n : ℕ) → given a ≡ refused n → ⊥
 given-not-refused a n e = let z : _≡_ {A = ℕ} 0 1 = cc in omega arith
 
+-- what can be read back from what it stands for is settled by it
+pub read-back : {A B : Type 0} (of : A → B) (read : B → A) → ((a : A) → read (of a) ≡ a) → (p q : A) → of p ≡ of q → p ≡ q
+read-back of read back p q e = sym (back p) ∙ ap read e ∙ back q
+
 -- the refusal of a number
-abbrev named : ℕ → Refusal
+abbrev pub named : ℕ → Refusal
 named n =
     pick (eqb n 1) Why.DivisorZero (pick (eqb n 2) Why.OutOfRange (pick (eqb n 3) Why.BadTransmission (pick (eqb n 4) Why.BadRow
     (pick (eqb n 5) Why.BadTables (pick (eqb n 6) Why.Outside (pick (eqb n 7) Why.SamePlace (pick (eqb n 8) Why.WrongLength
     (pick (eqb n 9) Why.BadCount Why.BadSize))))))))
 
-named-number : (w : Refusal) → named (numberOf w) ≡ w
+pub named-number : (w : Refusal) → named (numberOf w) ≡ w
 named-number Why.DivisorZero = refl
 named-number Why.OutOfRange = refl
 named-number Why.BadTransmission = refl
@@ -41,10 +45,21 @@ named-number Why.BadSize = refl
 
 -- no two refusals share a number
 pub number-only : (v w : Refusal) → numberOf v ≡ numberOf w → v ≡ w
-number-only v w e = sym (named-number v) ∙ ap named e ∙ named-number w
+number-only = read-back numberOf named named-number
 
-pub outcome-only : (p q : Answer) → outcome p ≡ outcome q → p ≡ q
-outcome-only (Answers.Octet a) (Answers.Octet b) e = ap Answers.Octet (given-only a b e)
-outcome-only (Answers.Octet a) (Answers.Refused w) e = absurd (given-not-refused a (numberOf w) e)
-outcome-only (Answers.Refused v) (Answers.Octet b) e = absurd (given-not-refused b (numberOf v) (sym e))
-outcome-only (Answers.Refused v) (Answers.Refused w) e = ap Answers.Refused (number-only v w (refused-only (numberOf v) (numberOf w) e))
+-- an answer read back from an outcome: a value, or the refusal of that number
+abbrev pub answerOf : {A X : Type 0} → (X → A) → (Refusal → A) → Outcome X → A
+answerOf value refusal (given x) = value x
+answerOf value refusal (refused n) = refusal (named n)
+
+-- the one law of all answers
+pub answer-only : {A X : Type 0} (of : A → Outcome X) (value : X → A) (refusal : Refusal → A) → ((a : A) → answerOf value refusal (of a) ≡ a)
+    → (p q : A) → of p ≡ of q → p ≡ q
+answer-only of value refusal = read-back of (answerOf value refusal)
+
+octet-back : (a : Answer) → answerOf Answers.Octet Answers.Refused (octetOutcome a) ≡ a
+octet-back (Answers.Octet x) = refl
+octet-back (Answers.Refused w) = ap Answers.Refused (named-number w)
+
+pub outcome-only : (p q : Answer) → octetOutcome p ≡ octetOutcome q → p ≡ q
+outcome-only = answer-only octetOutcome Answers.Octet Answers.Refused octet-back

@@ -9,7 +9,7 @@ use Rattle.field.specs.Runs.{Written}
 use Rattle.field.specs.declared.refusal.Refusal.{Refusal}
 use Rattle.field.specs.declared.refusal.Answer as Plain
 use Rattle.field.specs.declared.refusal.Answer.the-variants as Plains
-use Rattle.field.proofs.Answers.{given-not-refused, refused-only, number-only}
+use Rattle.field.proofs.Answers.{given-not-refused, named-number, answerOf, answer-only}
 use Rattle.field.proofs.Writing.{written-once}
 
 -- no refusal: the test failed, and what follows refuses nothing either
@@ -32,12 +32,13 @@ module _ {B : Type 0} {p : Outcome (Unit {0})} (x : Plain.Answer) (q : done x �
 pub told : {p : Outcome (Unit {0})} (x : Plain.Answer) → done x ≡ p → x ≡ Plains.Done → p ≡ given tt
 told x q e = sym q ∙ ap done e
 
+done-back : (x : Plain.Answer) → answerOf (λ _. Plains.Done) Plains.Refused (done x) ≡ x
+done-back Plains.Done = refl
+done-back (Plains.Refused w) = ap Plains.Refused (named-number w)
+
 -- an answer is settled by what it stands for
 pub done-only : (x y : Plain.Answer) → done x ≡ done y → x ≡ y
-done-only Plains.Done Plains.Done e = refl
-done-only Plains.Done (Plains.Refused w) e = absurd (given-not-refused tt (numberOf w) e)
-done-only (Plains.Refused v) Plains.Done e = absurd (given-not-refused tt (numberOf v) (sym e))
-done-only (Plains.Refused v) (Plains.Refused w) e = ap Plains.Refused (number-only v w (refused-only (numberOf v) (numberOf w) e))
+done-only = answer-only done (λ _. Plains.Done) Plains.Refused done-back
 
 -- a refused call has left the memory as it was
 pub left : (x : Plain.Answer) (why : Refusal) (xs : List ℕ) (P : Type 0) → x ≡ Plains.Refused why → Left (done x) xs xs P

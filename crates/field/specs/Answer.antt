@@ -55,9 +55,9 @@ done Plains.Done = given tt
 done (Plains.Refused why) = refused (numberOf why)
 
 -- what each case of the octets' answer stands for
-abbrev pub outcome : Answer → Outcome ℕ
-outcome (Answers.Octet x) = given x
-outcome (Answers.Refused why) = refused (numberOf why)
+abbrev pub octetOutcome : Answer → Outcome ℕ
+octetOutcome (Answers.Octet x) = given x
+octetOutcome (Answers.Refused why) = refused (numberOf why)
 
 -- what a division answers
 abbrev pub divided : ℕ → ℕ → Outcome ℕ

@@ -22,6 +22,6 @@ hold [] = true
 hold (e ∷ es) = both (same (e .0) (e .1)) (hold es)
 
 -- 128·2 = 29; 142·2 = 1; 3·7 = 9; 0·255 = 0; 9/7 = 3
-abbrev pub octets : List Example
-octets =
+abbrev pub octetExamples : List Example
+octetExamples =
     (times 128 2 ∷ [], 29 ∷ []) ∷ (times 142 2 ∷ [], 1 ∷ []) ∷ (times 3 7 ∷ [], 9 ∷ []) ∷ (times 0 255 ∷ [], 0 ∷ []) ∷ (over 9 7 ∷ [], 3 ∷ []) ∷ []

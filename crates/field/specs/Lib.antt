@@ -2,6 +2,7 @@
 pub mod Choice
 pub mod Octet
 pub mod Sum
+pub mod Ones
 pub mod Answer
 pub mod Runs
 pub mod Examples

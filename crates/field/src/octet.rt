@@ -1,7 +1,8 @@
-// Arithmetic of single octets, by value (octet.rs of the crate). No contract names a table.
+// Ported from octet.rs of raptorq 2.0.1 (Apache-2.0) and changed.
+// Arithmetic of single octets, by value. No contract names a table.
 ghost use mathlib.Core.Path.{_≡_};
 ghost use Rattle.field.specs.Octet.{plus, times};
-ghost use Rattle.field.specs.Answer.{divided, outcome, raised};
+ghost use Rattle.field.specs.Answer.{divided, octetOutcome, raised};
 use crate::beneath::tables;
 use crate::refusal::Refusal;
 
@@ -37,7 +38,7 @@ pub fn mul(a: u8, b: u8) -> u8
 }
 
 pub fn div(a: u8, by: u8) -> Answer
-    ensures { λ r. ⌜ outcome r ≡ divided a by ⌝ }
+    ensures { λ r. ⌜ octetOutcome r ≡ divided a by ⌝ }
 {
     if by == 0 {
         return Answer::Refused(Refusal::DivisorZero);
@@ -50,7 +51,7 @@ pub fn div(a: u8, by: u8) -> Answer
 
 // alpha to the power i
 pub fn alpha(i: usize) -> Answer
-    ensures { λ r. ⌜ outcome r ≡ raised i ⌝ }
+    ensures { λ r. ⌜ octetOutcome r ≡ raised i ⌝ }
 {
     if i < 256 {
         Answer::Octet(tables::oct_exp(i))

@@ -8,7 +8,7 @@ use lib.ListN.{length, take, drop}
 use Rattle.field.specs.Answer.{Outcome, given, refused}
 use Rattle.field.specs.Choice.{pick}
 use Rattle.headers.specs.Bytes.{Laid}
-use Rattle.headers.specs.Headers.{checked, readId, readInfo}
+use Rattle.headers.specs.Headers.{infoChecked, readId, readInfo}
 use Rattle.headers.specs.declared.payload_id.PayloadId.{PayloadId}
 use Rattle.headers.specs.declared.transmission.ObjectTransmissionInformation.{ObjectTransmissionInformation}
 
@@ -44,7 +44,7 @@ verdictLine (refused n) = refusedLine n
 abbrev pub told : Outcome ObjectTransmissionInformation → Outcome PayloadId → List ℕ
 told (refused n) i = refusedLine n
 told (given o) (refused n) = refusedLine n
-told (given o) (given i) = infoLines o ++ (idLines i ++ verdictLine (checked o))
+told (given o) (given i) = infoLines o ++ (idLines i ++ verdictLine (infoChecked o))
 
 -- twelve bytes of transmission information, and four of a payload id
 abbrev pub textOf : List ℕ → List ℕ

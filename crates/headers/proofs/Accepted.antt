@@ -12,7 +12,7 @@ use Rattle.field.specs.Answer.{given, refused, unless}
 use Rattle.field.proofs.Answers.{given-only, refused-only, given-not-refused}
 use Rattle.field.proofs.Refusals.{passed}
 use Rattle.headers.specs.Prime.{Prime, FirstFrom, clear, prime}
-use Rattle.headers.specs.Row.{Obeys, obeys, between, sixteen, bands, lOf, pOf, bOf, p1Of, sizesOf, checked}
+use Rattle.headers.specs.Row.{Obeys, obeys, between, sixteen, bands, lOf, pOf, bOf, p1Of, sizesOf, rowChecked}
 use Rattle.headers.specs.Tuples.{Ready}
 use Rattle.headers.specs.declared.row.Row.{Row}
 use Rattle.headers.specs.declared.row.Sizes.{Sizes}
@@ -22,9 +22,9 @@ use Rattle.headers.proofs.Primes.{trial, clear-tells, prime-tells, firs
 within : (low n high : ℕ) → Tells (between low n high) ((low ≤ n) × (n ≤ high))
 within low n high = tells-both (tells-le low n) (tells-le n high)
 
-small : (r : Row) → Tells (sixteen r) ((r .k < 65536) × ((r .j < 65536) × ((r .s < 65536) × ((r .h < 65536) × (r .w < 65536)))))
+small : (r : Row) → Tells (sixteen r) ((r .kp < 65536) × ((r .j < 65536) × ((r .s < 65536) × ((r .h < 65536) × (r .w < 65536)))))
 small r =
-    tells-both (tells-lt (r .k) 65536) (tells-both (tells-lt (r .j) 65536) (tells-both (tells-lt (r .s) 65536)
+    tells-both (tells-lt (r .kp) 65536) (tells-both (tells-lt (r .j) 65536) (tells-both (tells-lt (r .s) 65536)
     (tells-both (tells-lt (r .h) 65536) (tells-lt (r .w) 65536))))
 
 -- the tests decide the rules
@@ -35,13 +35,13 @@ obeys-tells r =
     (λ t. record {
       ranges =
           record {
-            k-16 = t .0 .0;
+            kp-16 = t .0 .0;
             j-16 = t .0 .1 .0;
             s-16 = t .0 .1 .1 .0;
             h-16 = t .0 .1 .1 .1 .0;
             w-16 = t .0 .1 .1 .1 .1;
-            k-low = t .1 .0 .0;
-            k-high = t .1 .0 .1;
+            kp-low = t .1 .0 .0;
+            kp-high = t .1 .0 .1;
             s-odd = t .1 .1 .0 .0;
             s-low = t .1 .1 .0 .1;
             h-low = t .1 .1 .1 .0 .0;
@@ -54,10 +54,10 @@ obeys-tells r =
       l-high = t .1 .1 .1 .1 .1 .1 .1 .1 .0;
     })
     (λ o. let n = o .ranges in (
-      (n .k-16, (n .j-16, (n .s-16, (n .h-16, n .w-16)))),
-      ((n .k-low, n .k-high), ((n .s-odd, n .s-low), ((n .h-low, n .h-high), (o .w-prime, (o .b-low, (o .p-low, (o .b-high, (o .l-high, refl)))))))),
+      (n .kp-16, (n .j-16, (n .s-16, (n .h-16, n .w-16)))),
+      ((n .kp-low, n .kp-high), ((n .s-odd, n .s-low), ((n .h-low, n .h-high), (o .w-prime, (o .b-low, (o .p-low, (o .b-high, (o .l-high, refl)))))))),
     ))
-    (tells-both (small r) (tells-both (within 1 (r .k) 56403) (tells-both (tells-both (tells-eq (r .s % 2) 1) (tells-le 3 (r .s)))
+    (tells-both (small r) (tells-both (within 1 (r .kp) 56403) (tells-both (tells-both (tells-eq (r .s % 2) 1) (tells-le 3 (r .s)))
     (tells-both (within 2 (r .h) 255) (tells-both (prime-tells (r .w)) (tells-both (tells-le 1 (bOf r)) (tells-both (tells-le 3 (pOf r))
     (tells-both (tells-lt (bands r) (r .s)) (tells-both (tells-le (lOf r) 65535) tells-true)))))))))
 
@@ -105,7 +105,7 @@ module _ {r : Row} (o : Obeys r) where
   l-low = omega (arith, o .p-low, w-low)
 
   pub p-high : pOf r ≤ 56656
-  p-high = omega (arith, b-even, s-below-w, o .ranges .k-high, o .ranges .h-high)
+  p-high = omega (arith, b-even, s-below-w, o .ranges .kp-high, o .ranges .h-high)
 
   pub p1-first : FirstFrom (pOf r) (p1Of r)
   p1-first = first-from (pOf r) (omega (arith, p-high))
@@ -128,12 +128,12 @@ module _ {r : Row} (o : Obeys r) where
 
 -- what the answer of a check tells
 module _ (r : Row) where
-  pub accepted : (z : Sizes) → given z ≡ checked r → (Obeys r) × (z ≡ sizesOf r)
+  pub accepted : (z : Sizes) → given z ≡ rowChecked r → (Obeys r) × (z ≡ sizesOf r)
   accepted z e =
       let p = passed (not (obeys r)) 4 (given (sizesOf r)) z (sym e) in
       (obeys-tells r .passes (not-false (obeys r) (p .0)), given-only z (sizesOf r) (sym (p .1)))
 
-  pub rejected : (n : ℕ) → refused n ≡ checked r → (n ≡ 4) × (Obeys r → ⊥)
+  pub rejected : (n : ℕ) → refused n ≡ rowChecked r → (n ≡ 4) × (Obeys r → ⊥)
   rejected n = go (obeys r) (obeys-tells r)
     where
       go : (b : Bool) → Tells b (Obeys r) → refused n ≡ unless (not b) 4 (given (sizesOf r)) → (n ≡ 4) × (Obeys r → ⊥)

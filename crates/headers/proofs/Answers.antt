@@ -1,18 +1,16 @@
 -- Each contract settles its answer, and what stands in the store afterwards.
 -- Assumes nothing.
-use mathlib.Core.Path.{_≡_, sym, ap}
-use mathlib.Core.List.{List, [], _∷_}
+use mathlib.Core.Path.{_≡_, refl, ap}
+use mathlib.Core.List.{List}
 use Prim.Native.Nat.{ℕ}
 use lib.ListN.{length, getD}
-use Rattle.field.specs.Answer.{Outcome, done, numberOf}
-use Rattle.field.proofs.Answers.{given-only, refused-only, given-not-refused, number-only}
+use Rattle.field.specs.Answer.{Outcome, done}
+use Rattle.field.proofs.Answers.{named-number, answerOf, answer-only}
 use Rattle.field.proofs.Refusals.{settled-written, done-only}
 use Rattle.headers.specs.Headers.{Stores, idOutcome, infoOutcome, headOutcome, packetOutcome}
 use Rattle.headers.specs.Partition.{partitionOutcome}
 use Rattle.field.specs.declared.refusal.Answer as Plain
-use Rattle.headers.specs.declared.payload_id.PayloadId.{PayloadId}
 use Rattle.headers.specs.declared.payload_id.Answer as Ids
-use Rattle.headers.specs.declared.transmission.ObjectTransmissionInformation.{ObjectTransmissionInformation}
 use Rattle.headers.specs.declared.transmission.Answer as Infos
 use Rattle.headers.specs.declared.packet.Head as Heads
 use Rattle.headers.specs.declared.packet.Answer as Packets
@@ -24,44 +22,41 @@ module _ {o : Outcome (Unit {0})} {bs xs ys zs : List ℕ} where
   stores-only {p} {q} u v =
       settled-written done done-only o xs (λ k. getD bs k 0) 0 (length bs) p q ys zs (u .answer, u .memory) (v .answer, v .memory)
 
+id-back : (a : Ids.Answer) → answerOf Ids.the-variants.Id Ids.the-variants.Refused (idOutcome a) ≡ a
+id-back (Ids.the-variants.Id x) = refl
+id-back (Ids.the-variants.Refused w) = ap Ids.the-variants.Refused (named-number w)
+
 pub id-only : (p q : Ids.Answer) → idOutcome p ≡ idOutcome q → p ≡ q
-id-only (Ids.the-variants.Id a) (Ids.the-variants.Id b) e = ap Ids.the-variants.Id (given-only a b e)
-id-only (Ids.the-variants.Id a) (Ids.the-variants.Refused w) e = absurd (given-not-refused a (numberOf w) e)
-id-only (Ids.the-variants.Refused v) (Ids.the-variants.Id b) e = absurd (given-not-refused b (numberOf v) (sym e))
-id-only (Ids.the-variants.Refused v) (Ids.the-variants.Refused w) e =
-    ap Ids.the-variants.Refused (number-only v w (refused-only {A = PayloadId} (numberOf v) (numberOf w) e))
+id-only = answer-only idOutcome Ids.the-variants.Id Ids.the-variants.Refused id-back
+
+info-back : (a : Infos.Answer) → answerOf Infos.the-variants.Information Infos.the-variants.Refused (infoOutcome a) ≡ a
+info-back (Infos.the-variants.Information x) = refl
+info-back (Infos.the-variants.Refused w) = ap Infos.the-variants.Refused (named-number w)
 
 pub info-only : (p q : Infos.Answer) → infoOutcome p ≡ infoOutcome q → p ≡ q
-info-only (Infos.the-variants.Information a) (Infos.the-variants.Information b) e = ap Infos.the-variants.Information (given-only a b e)
-info-only (Infos.the-variants.Information a) (Infos.the-variants.Refused w) e = absurd (given-not-refused a (numberOf w) e)
-info-only (Infos.the-variants.Refused v) (Infos.the-variants.Information b) e = absurd (given-not-refused b (numberOf v) (sym e))
-info-only (Infos.the-variants.Refused v) (Infos.the-variants.Refused w) e =
-    ap Infos.the-variants.Refused (number-only v w (refused-only {A = ObjectTransmissionInformation} (numberOf v) (numberOf w) e))
+info-only = answer-only infoOutcome Infos.the-variants.Information Infos.the-variants.Refused info-back
+
+head-back : (a : Heads.Head) → answerOf (λ x. Heads.the-variants.Id (x .0) (record { at = x .1 })) Heads.the-variants.Refused (headOutcome a) ≡ a
+head-back (Heads.the-variants.Id x c) = refl
+head-back (Heads.the-variants.Refused w) = ap Heads.the-variants.Refused (named-number w)
 
 pub head-only : (p q : Heads.Head) → headOutcome p ≡ headOutcome q → p ≡ q
-head-only (Heads.the-variants.Id a c) (Heads.the-variants.Id b d) e =
-    ap (λ (x : PayloadId × ℕ). Heads.the-variants.Id (x .0) (record { at = x .1 })) (given-only (a, c .at) (b, d .at) e)
-head-only (Heads.the-variants.Id a c) (Heads.the-variants.Refused w) e = absurd (given-not-refused (a, c .at) (numberOf w) e)
-head-only (Heads.the-variants.Refused v) (Heads.the-variants.Id b d) e = absurd (given-not-refused (b, d .at) (numberOf v) (sym e))
-head-only (Heads.the-variants.Refused v) (Heads.the-variants.Refused w) e =
-    ap Heads.the-variants.Refused (number-only v w (refused-only {A = PayloadId × ℕ} (numberOf v) (numberOf w) e))
+head-only = answer-only headOutcome (λ x. Heads.the-variants.Id (x .0) (record { at = x .1 })) Heads.the-variants.Refused head-back
+
+packet-back : (a : Packets.Answer) → answerOf (λ x. Packets.the-variants.Packet (x .0) (x .1) (x .2)) Packets.the-variants.Refused (packetOutcome a) ≡ a
+packet-back (Packets.the-variants.Packet x f l) = refl
+packet-back (Packets.the-variants.Refused w) = ap Packets.the-variants.Refused (named-number w)
 
 pub packet-only : (p q : Packets.Answer) → packetOutcome p ≡ packetOutcome q → p ≡ q
-packet-only (Packets.the-variants.Packet a f l) (Packets.the-variants.Packet b g m) e =
-    ap (λ (x : PayloadId × ℕ × ℕ). Packets.the-variants.Packet (x .0) (x .1) (x .2)) (given-only (a, f, l) (b, g, m) e)
-packet-only (Packets.the-variants.Packet a f l) (Packets.the-variants.Refused w) e = absurd (given-not-refused (a, f, l) (numberOf w) e)
-packet-only (Packets.the-variants.Refused v) (Packets.the-variants.Packet b g m) e = absurd (given-not-refused (b, g, m) (numberOf v) (sym e))
-packet-only (Packets.the-variants.Refused v) (Packets.the-variants.Refused w) e =
-    ap Packets.the-variants.Refused (number-only v w (refused-only {A = PayloadId × ℕ × ℕ} (numberOf v) (numberOf w) e))
+packet-only = answer-only packetOutcome (λ x. Packets.the-variants.Packet (x .0) (x .1) (x .2)) Packets.the-variants.Refused packet-back
 
 -- the four numbers of a partition's answer, by their places in the list
+abbrev four : List ℕ → Parts.Answer
+four x = Parts.the-variants.Parts (getD x 0 0) (getD x 1 0) (getD x 2 0) (getD x 3 0)
+
+partition-back : (a : Parts.Answer) → answerOf four Parts.the-variants.Refused (partitionOutcome a) ≡ a
+partition-back (Parts.the-variants.Parts a b c d) = refl
+partition-back (Parts.the-variants.Refused w) = ap Parts.the-variants.Refused (named-number w)
+
 pub partition-only : (p q : Parts.Answer) → partitionOutcome p ≡ partitionOutcome q → p ≡ q
-partition-only (Parts.the-variants.Parts a b c d) (Parts.the-variants.Parts a₁ b₁ c₁ d₁) e =
-    ap (λ (x : List ℕ). Parts.the-variants.Parts (getD x 0 0) (getD x 1 0) (getD x 2 0) (getD x 3 0))
-    (given-only (a ∷ b ∷ c ∷ d ∷ []) (a₁ ∷ b₁ ∷ c₁ ∷ d₁ ∷ []) e)
-partition-only (Parts.the-variants.Parts a b c d) (Parts.the-variants.Refused w) e =
-    absurd (given-not-refused (a ∷ b ∷ c ∷ d ∷ []) (numberOf w) e)
-partition-only (Parts.the-variants.Refused v) (Parts.the-variants.Parts a b c d) e =
-    absurd (given-not-refused (a ∷ b ∷ c ∷ d ∷ []) (numberOf v) (sym e))
-partition-only (Parts.the-variants.Refused v) (Parts.the-variants.Refused w) e =
-    ap Parts.the-variants.Refused (number-only v w (refused-only {A = List ℕ} (numberOf v) (numberOf w) e))
+partition-only = answer-only partitionOutcome four Parts.the-variants.Refused partition-back

@@ -11,7 +11,7 @@ use lib.Dec.{ltb, ltb→lt}
 use lib.ListN.{length, getD}
 use Rattle.field.specs.Choice.{pick}
 use Rattle.field.proofs.Computed.{under}
-use Rattle.headers.specs.Degree.{thresholds, Holds, climb, degree}
+use Rattle.headers.specs.Degree.{thresholds, IntervalOf, climb, degree}
 
 abbrev f : ℕ → ℕ
 f k = getD thresholds k 0
@@ -32,11 +32,11 @@ not-last {d} {v} h l u = go (decLt d 30)
     go (yes a) = a
     go (no a) = let e : d ≡ 30 = omega arith in absurd (let m : 1048576 ≤ v = subst (λ (n : ℕ). getD thresholds n 0 ≤ v) e l in omega arith)
 
-apart : {v d e : ℕ} → Holds v d → Holds v e → d < e → ⊥
+apart : {v d e : ℕ} → IntervalOf v d → IntervalOf v e → d < e → ⊥
 apart {v} {d} {e} p q h = omega (arith, mono d (e - 1) (omega arith) (omega arith), p .to, q .from)
 
 -- one interval holds v
-pub one : {v d e : ℕ} → Holds v d → Holds v e → d ≡ e
+pub one : {v d e : ℕ} → IntervalOf v d → IntervalOf v e → d ≡ e
 one {v} {d} {e} p q = go (decLt d e) (decLt e d)
   where
     go : Dec (d < e) → Dec (e < d) → d ≡ e
@@ -72,7 +72,7 @@ climb-low v (suc k) (x ∷ xs) h = go (decLt v x) h (climb-low v k xs)
     go (no a) q ih = let r : suc k < suc (climb v xs) = rw (le-ltb v x (omega arith)) at q in ih (omega arith)
 
 -- the climb finds the interval that holds v
-pub interval : (v : ℕ) → v < 1048576 → Holds v (climb v thresholds)
+pub interval : (v : ℕ) → v < 1048576 → IntervalOf v (climb v thresholds)
 interval v h =
     let p : (climb v thresholds ≤ 30) × (v < f (climb v thresholds)) = climb-past v 30 thresholds (omega arith) h in
     let low : 1 ≤ climb v thresholds = go (decLt (climb v thresholds) 1) (p .1) in
@@ -83,7 +83,7 @@ interval v h =
     go (no a) q = omega arith
 
 -- what is found is the degree
-pub held-degree : {v d : ℕ} (w : ℕ) {r : ℕ} → v < 1048576 → Holds v d → r ≡ min d (w - 2) → r ≡ degree v w
+pub held-degree : {v d : ℕ} (w : ℕ) {r : ℕ} → v < 1048576 → IntervalOf v d → r ≡ min d (w - 2) → r ≡ degree v w
 unfolding degree
 held-degree {v} {d} w {r} h p e = e ∙ ap (λ (n : ℕ). min n (w - 2)) (one p (interval v h))
 

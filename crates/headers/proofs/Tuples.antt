@@ -16,7 +16,7 @@ use Rattle.field.proofs.Answers.{given-only}
 use Rattle.field.proofs.Refusals.{passed}
 use Rattle.headers.specs.Rand.{mixed, random}
 use Rattle.headers.specs.Degree.{degree}
-use Rattle.headers.specs.Tuples.{seed, piDegree, tupleOf, Bounds, Ready, answer}
+use Rattle.headers.specs.Tuples.{seed, piDegree, tupleOf, Bounds, Ready, tupleAnswer}
 use Rattle.headers.specs.Row.{Obeys, obeys, p1Of}
 use Rattle.headers.specs.declared.row.Row.{Row}
 use Rattle.headers.specs.declared.tuple.Tuple.{Tuple}
@@ -81,7 +81,7 @@ unfolding tupleOf
 three-below-four v j w p1 x = pi-degree-three v (degree (random v (seed j x) 0 1048576) w) x
 
 -- what the generator's answer tells
-module _ (r : Row) (v : List ℕ) (x : ℕ) (t : Tuple) (e : given t ≡ answer r v x) where
+module _ (r : Row) (v : List ℕ) (x : ℕ) (t : Tuple) (e : given t ≡ tupleAnswer r v x) where
   pub generated : (Obeys r) × (length v ≡ 1024) × (t ≡ tupleOf v (r .j) (r .w) (p1Of r) x)
   generated =
       let rest = given (tupleOf v (r .j) (r .w) (p1Of r) x) in

@@ -15,7 +15,7 @@ thresholds =
     ∷ 1013490 ∷ 1014983 ∷ 1016370 ∷ 1017662 ∷ 1048576 ∷ []
 
 -- d is the interval that holds v: f[d-1] <= v < f[d]
-pub record Holds (v d : ℕ) : Type 0 where
+pub record IntervalOf (v d : ℕ) : Type 0 where
   pub low : 1 ≤ d
   pub high : d ≤ 30
   pub from : getD thresholds (d - 1) 0 ≤ v
@@ -31,5 +31,5 @@ unfoldable pub degree : ℕ → ℕ → ℕ
 degree v w = min (climb v thresholds) (w - 2)
 
 -- what a call of deg answers
-abbrev pub answer : ℕ → ℕ → Outcome ℕ
-answer v w = unless (leb 1048576 v) 2 (unless (ltb w 2) 2 (given (degree v w)))
+abbrev pub degAnswer : ℕ → ℕ → Outcome ℕ
+degAnswer v w = unless (leb 1048576 v) 2 (unless (ltb w 2) 2 (given (degree v w)))

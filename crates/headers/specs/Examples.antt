@@ -1,7 +1,7 @@
 -- The examples of document 01 that are marked to be proved, of this layer. They go in front of those of `field`.
 -- Assumes nothing.
 use mathlib.Core.List.{List, [], _∷_, _++_}
-use Rattle.field.specs.Examples.{Example, octets}
+use Rattle.field.specs.Examples.{Example, octetExamples}
 use Rattle.headers.specs.Degree.{degree}
 use Rattle.headers.specs.Partition.{parts}
 
@@ -16,4 +16,4 @@ abbrev partitions : List Example
 partitions = (parts 10 3, 4 ∷ 3 ∷ 1 ∷ 2 ∷ []) ∷ []
 
 abbrev pub examples : List Example
-examples = degrees ++ (partitions ++ octets)
+examples = degrees ++ (partitions ++ octetExamples)

@@ -85,8 +85,8 @@ abbrev pub crowded : ℕ → ℕ → ℕ → Bool
 crowded f t z = both (not (eqb t 0)) (both (not (eqb z 0)) (ltb 56403 (ceil (ceil f t) z)))
 
 -- the rules of document 01, 'Headers'
-abbrev pub checked : ObjectTransmissionInformation → Outcome (Unit {0})
-checked o =
+abbrev pub infoChecked : ObjectTransmissionInformation → Outcome (Unit {0})
+infoChecked o =
     unless (ltb 942574504275 (o .«transfer_length»)) 3
     (unless (eqb (o .«symbol_alignment») 0) 3
     (unless (not (eqb (o .«symbol_size» % o .«symbol_alignment») 0)) 3

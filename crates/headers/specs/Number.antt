@@ -5,6 +5,6 @@ use Rattle.field.specs.Answer.{Outcome, given, refused, numberOf}
 use Rattle.headers.specs.declared.number.Number.{Number}
 use Rattle.headers.specs.declared.number.Number.the-variants.{Value, Refused}
 
-abbrev pub outcome : Number → Outcome ℕ
-outcome (Value x) = given x
-outcome (Refused why) = refused (numberOf why)
+abbrev pub numberOutcome : Number → Outcome ℕ
+numberOutcome (Value x) = given x
+numberOutcome (Refused why) = refused (numberOf why)

@@ -22,5 +22,5 @@ unfoldable pub random : List ℕ → ℕ → ℕ → ℕ → ℕ
 random v y i m = mixed v y i % m
 
 -- what a call of rand answers: tables that are not 1,024 numbers, then m = 0
-abbrev pub answer : List ℕ → ℕ → ℕ → ℕ → Outcome ℕ
-answer v y i m = unless (not (eqb (length v) 1024)) 5 (unless (eqb m 0) 2 (given (random v y i m)))
+abbrev pub randAnswer : List ℕ → ℕ → ℕ → ℕ → Outcome ℕ
+randAnswer v y i m = unless (not (eqb (length v) 1024)) 5 (unless (eqb m 0) 2 (given (random v y i m)))

@@ -16,7 +16,7 @@ use Rattle.headers.specs.declared.row.Checked.the-variants.{Value, Refus
 
 -- L = K' + S + H
 abbrev pub lOf : Row → ℕ
-lOf r = r .k + r .s + r .h
+lOf r = r .kp + r .s + r .h
 
 -- P = L - W; where that would be negative it is 0 here, which breaks the same rule
 abbrev pub pOf : Row → ℕ
@@ -35,14 +35,14 @@ abbrev pub bands : Row → ℕ
 bands r = ceil (bOf r) (r .s)
 
 -- K', J, S, H, W: each below 65,536; K' 1..56,403; S odd, at least 3; H 2..255
-pub record Ranges (k j s h w : ℕ) : Type 0 where
-  pub k-16 : k < 65536
+pub record Ranges (kp j s h w : ℕ) : Type 0 where
+  pub kp-16 : kp < 65536
   pub j-16 : j < 65536
   pub s-16 : s < 65536
   pub h-16 : h < 65536
   pub w-16 : w < 65536
-  pub k-low : 1 ≤ k
-  pub k-high : k ≤ 56403
+  pub kp-low : 1 ≤ kp
+  pub kp-high : kp ≤ 56403
   pub s-odd : s % 2 ≡ 1
   pub s-low : 3 ≤ s
   pub h-low : 2 ≤ h
@@ -50,7 +50,7 @@ pub record Ranges (k j s h w : ℕ) : Type 0 where
 
 -- the rules as a fact
 pub record Obeys (r : Row) : Type 0 where
-  pub ranges : Ranges (r .k) (r .j) (r .s) (r .h) (r .w)
+  pub ranges : Ranges (r .kp) (r .j) (r .s) (r .h) (r .w)
   pub w-prime : Prime (r .w)
   pub b-low : 1 ≤ bOf r
   pub p-low : 3 ≤ pOf r
@@ -62,12 +62,12 @@ abbrev pub between : ℕ → ℕ → ℕ → Bool
 between low n high = both (leb low n) (leb n high)
 
 abbrev pub sixteen : Row → Bool
-sixteen r = both (ltb (r .k) 65536) (both (ltb (r .j) 65536) (both (ltb (r .s) 65536) (both (ltb (r .h) 65536) (ltb (r .w) 65536))))
+sixteen r = both (ltb (r .kp) 65536) (both (ltb (r .j) 65536) (both (ltb (r .s) 65536) (both (ltb (r .h) 65536) (ltb (r .w) 65536))))
 
 -- the same rules as tests, in document 01's order; the theorem `obeys-tells` says that they decide the fact
 abbrev pub rules : Row → List Bool
 rules r =
-    sixteen r ∷ between 1 (r .k) 56403 ∷ both (eqb (r .s % 2) 1) (leb 3 (r .s)) ∷ between 2 (r .h) 255 ∷ prime (r .w)
+    sixteen r ∷ between 1 (r .kp) 56403 ∷ both (eqb (r .s % 2) 1) (leb 3 (r .s)) ∷ between 2 (r .h) 255 ∷ prime (r .w)
     ∷ leb 1 (bOf r) ∷ leb 3 (pOf r) ∷ ltb (bands r) (r .s) ∷ leb (lOf r) 65535 ∷ []
 
 abbrev pub all : List Bool → Bool
@@ -81,9 +81,9 @@ abbrev pub sizesOf : Row → Sizes
 sizesOf r = record { l = lOf r; p = pOf r; b = bOf r; p1 = p1Of r }
 
 -- what a check answers
-abbrev pub checked : Row → Outcome Sizes
-checked r = unless (not (obeys r)) 4 (given (sizesOf r))
+abbrev pub rowChecked : Row → Outcome Sizes
+rowChecked r = unless (not (obeys r)) 4 (given (sizesOf r))
 
-abbrev pub outcome : Checked → Outcome Sizes
-outcome (Value z) = given z
-outcome (Refused why) = refused (numberOf why)
+abbrev pub sizesOutcome : Checked → Outcome Sizes
+sizesOutcome (Value z) = given z
+sizesOutcome (Refused why) = refused (numberOf why)

@@ -15,10 +15,10 @@ abbrev pub shifted : ℕ → ℕ → ℕ → ℕ
 shifted esi k kp = pick (ltb esi k) esi (esi + (kp - k))
 
 -- what the shift answers
-abbrev pub answer : Row → ℕ → ℕ → Outcome ℕ
-answer r k esi =
-    unless (not (obeys r)) 4 (unless (leb 16777216 esi) 9 (unless (not (between 1 k (r .k))) 9 (given (shifted esi k (r .k)))))
+abbrev pub isiAnswer : Row → ℕ → ℕ → Outcome ℕ
+isiAnswer r k esi =
+    unless (not (obeys r)) 4 (unless (leb 16777216 esi) 9 (unless (not (between 1 k (r .kp))) 9 (given (shifted esi k (r .kp)))))
 
-abbrev pub outcome : Shifted → Outcome ℕ
-outcome (Value i) = given (i .0)
-outcome (Refused why) = refused (numberOf why)
+abbrev pub isiOutcome : Shifted → Outcome ℕ
+isiOutcome (Value i) = given (i .0)
+isiOutcome (Refused why) = refused (numberOf why)

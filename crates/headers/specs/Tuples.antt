@@ -62,9 +62,9 @@ pub record Ready (v : List ℕ) (j w p1 : ℕ) : Type 0 where
   pub p1-low : 2 ≤ p1
 
 -- what the generator answers
-abbrev pub answer : Row → List ℕ → ℕ → Outcome Tuple
-answer r v x = unless (not (obeys r)) 4 (unless (not (eqb (length v) 1024)) 5 (given (tupleOf v (r .j) (r .w) (p1Of r) x)))
+abbrev pub tupleAnswer : Row → List ℕ → ℕ → Outcome Tuple
+tupleAnswer r v x = unless (not (obeys r)) 4 (unless (not (eqb (length v) 1024)) 5 (given (tupleOf v (r .j) (r .w) (p1Of r) x)))
 
-abbrev pub outcome : Generated → Outcome Tuple
-outcome (Value t) = given t
-outcome (Refused why) = refused (numberOf why)
+abbrev pub tupleOutcome : Generated → Outcome Tuple
+tupleOutcome (Value t) = given t
+tupleOutcome (Refused why) = refused (numberOf why)

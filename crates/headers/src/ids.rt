@@ -1,6 +1,6 @@
 // An ESI counts what was sent; an ISI counts matrix rows. Only the shift turns the first into the second.
 ghost use mathlib.Core.Path.{_≡_};
-ghost use Rattle.headers.specs.Shift.{answer, outcome};
+ghost use Rattle.headers.specs.Shift.{isiAnswer, isiOutcome};
 use crate::beneath::row;
 use crate::row::Row;
 use field::refusal::Refusal;
@@ -18,7 +18,7 @@ pub enum Shifted {
 
 // The ISI of what was sent of a block of k source symbols.
 pub fn isi_of(r: Row, k: u32, e: Esi) -> Shifted
-    ensures { λ i. ⌜ outcome i ≡ answer r k (e .0) ⌝ }
+    ensures { λ i. ⌜ isiOutcome i ≡ isiAnswer r k (e .0) ⌝ }
 {
     if !row::obeys(r) {
         return Shifted::Refused(Refusal::BadRow);
@@ -29,10 +29,10 @@ pub fn isi_of(r: Row, k: u32, e: Esi) -> Shifted
     if k < 1 {
         return Shifted::Refused(Refusal::BadCount);
     }
-    if k > r.k {
+    if k > r.kp {
         return Shifted::Refused(Refusal::BadCount);
     }
-    Shifted::Value(beneath::isi_of(r.k, k, e))
+    Shifted::Value(beneath::isi_of(r.kp, k, e))
 }
 
 pub fn number(x: Isi) -> u32

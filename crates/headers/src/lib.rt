@@ -1,4 +1,4 @@
-// What a receiver reads before it touches a symbol, each refusal exact, and the tuples of its symbols (base.rs and rng.rs of the crate).
+// What a receiver reads before it touches a symbol, each refusal exact, and the tuples of its symbols (base.rs of the crate, rand from the RFC).
 pub mod beneath;
 pub mod deg;
 pub mod ids;

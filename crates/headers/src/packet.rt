@@ -1,3 +1,4 @@
+// Ported from base.rs of raptorq 2.0.1 (Apache-2.0) and changed.
 // A packet: a payload id, and the bytes of its symbols (RFC 6330, 4.4.2).
 ghost use mathlib.Core.Path.{_≡_};
 ghost use Rattle.headers.specs.Headers.{PacketStored, headOutcome, headed, packetOutcome, readPacket, refusalOf};

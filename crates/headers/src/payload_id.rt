@@ -1,3 +1,4 @@
+// Ported from base.rs of raptorq 2.0.1 (Apache-2.0) and changed.
 // The payload id: the block's number in one byte, the encoding symbol id in three (RFC 6330, 3.2).
 ghost use mathlib.Core.Path.{_≡_};
 ghost use Rattle.headers.specs.Headers.{IdStored, idOutcome, readId};

@@ -1,12 +1,12 @@
 // The parameter row of a block (RFC 6330 section 5.6), lent by the caller, and its check.
 ghost use mathlib.Core.Path.{_≡_};
-ghost use Rattle.headers.specs.Row.{checked, outcome};
+ghost use Rattle.headers.specs.Row.{rowChecked, sizesOutcome};
 use crate::beneath;
 use field::refusal::Refusal;
 
 // K', J, S, H and W
 pub struct Row {
-    pub k: u32,
+    pub kp: u32,
     pub j: u32,
     pub s: u32,
     pub h: u32,
@@ -27,7 +27,7 @@ pub enum Checked {
 }
 
 pub fn check(r: Row) -> Checked
-    ensures { λ c. ⌜ outcome c ≡ checked r ⌝ }
+    ensures { λ c. ⌜ sizesOutcome c ≡ rowChecked r ⌝ }
 {
     if !beneath::row::obeys(r) {
         return Checked::Refused(Refusal::BadRow);

@@ -1,10 +1,11 @@
+// Ported from base.rs of raptorq 2.0.1 (Apache-2.0) and changed.
 // The object transmission information: twelve bytes, and the rules that it has to keep (RFC 6330, 3.3.2 and 3.3.3).
 ghost use mathlib.Core.Path.{_≡_};
 ghost use Prim.Native.Nat.{_≤_};
 ghost use lib.ListN.{length};
 ghost use Rattle.field.specs.Answer.{done};
 ghost use Rattle.headers.specs.Bytes.{Laid};
-ghost use Rattle.headers.specs.Headers.{InfoStored, checked, crowded, infoBytes, infoOutcome, readInfo};
+ghost use Rattle.headers.specs.Headers.{InfoStored, infoChecked, crowded, infoBytes, infoOutcome, readInfo};
 use crate::beneath;
 use crate::beneath::big_endian;
 use crate::beneath::util;
@@ -74,7 +75,7 @@ fn is_crowded(f: u64, t: u16, z: u8) -> bool
 
 // As the crate's `new`, T = 0 and Z = 0 pass.
 pub fn check(info: ObjectTransmissionInformation) -> refusal::Answer
-    ensures { λ r. ⌜ done r ≡ checked info ⌝ }
+    ensures { λ r. ⌜ done r ≡ infoChecked info ⌝ }
 {
     if info.transfer_length > 942574504275 {
         return refusal::Answer::Refused(Refusal::BadTransmission);

@@ -1,6 +1,7 @@
-// Tuple[K', X] of RFC 6330 section 5.3.5.4 (base.rs of the crate), of an internal symbol id X of any 32 bits.
+// Ported from base.rs of raptorq 2.0.1 (Apache-2.0) and changed.
+// Tuple[K', X] of RFC 6330 section 5.3.5.4, of an internal symbol id X of any 32 bits.
 ghost use mathlib.Core.Path.{_≡_};
-ghost use Rattle.headers.specs.Tuples.{answer, outcome};
+ghost use Rattle.headers.specs.Tuples.{tupleAnswer, tupleOutcome};
 use crate::beneath;
 use crate::ids::Isi;
 use crate::row;
@@ -23,7 +24,7 @@ pub enum Generated {
 }
 
 pub fn intermediate_tuple(r: Row, tables: &[u32], x: Isi) -> Generated
-    ensures { λ t. ⌜ outcome t ≡ answer r (now (tables .entry)) (x .0) ⌝ }
+    ensures { λ t. ⌜ tupleOutcome t ≡ tupleAnswer r (now (tables .entry)) (x .0) ⌝ }
 {
     let Checked::Value(z) = row::check(r) else {
         return Generated::Refused(Refusal::BadRow);

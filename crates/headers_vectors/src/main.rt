@@ -151,7 +151,7 @@ struct Question {
 
 fn row_of(q: Question) -> Row {
     Row {
-        k: word(q.n0),
+        kp: word(q.n0),
         j: word(q.n1),
         s: word(q.n2),
         h: word(q.n3),

@@ -15,7 +15,7 @@ use Rattle.linear.specs.Total.{delta}
 use Rattle.linear.specs.System.{System}
 use Rattle.linear.specs.Reduced.{Reduced}
 use Rattle.linear.specs.Octets.{octets, Octet, oct}
-use Rattle.linear.specs.Bytes.{Bytes, cell, Block, stored, OctetSymbols, inOctets, symbols, SolvedBytes, ContradictionBytes, OpenBytes, ShortfallBytes}
+use Rattle.linear.specs.Bytes.{Bytes, cell, Block, storedSystem, OctetSymbols, inOctets, symbols, SolvedBytes, ContradictionBytes, OpenBytes, ShortfallBytes}
 use Rattle.linear.specs.Rows.{RowCopied, OnlyBelow}
 use Rattle.linear.specs.Elimination.{Holds, Stepped, Sifted, Held, Columns, Gathered}
 use Rattle.linear.proofs.Total.{delta-self, delta-other}
@@ -71,7 +71,7 @@ room {L} {T} {m} {r} {pivot} {a} q s hq nz =
 
 module _ {M L T r : ℕ} {pivot : ℕ → ℕ} {a d : List ℕ} (held : Held L T M r pivot a d) where
   abbrev end : System Octet
-  end = inOctets (stored M L T a d)
+  end = inOctets (storedSystem M L T a d)
 
   reduced : Reduced octets L M (symbols L a) r
   reduced = record {

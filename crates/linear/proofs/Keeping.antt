@@ -12,7 +12,7 @@ use Rattle.linear.specs.Index.{Col}
 use Rattle.linear.specs.Span.{InSpan, Within}
 use Rattle.linear.specs.System.{System, Included, equation}
 use Rattle.linear.specs.Octets.{octets, Octet, oct}
-use Rattle.linear.specs.Bytes.{cell, stored, inOctets}
+use Rattle.linear.specs.Bytes.{cell, storedSystem, inOctets}
 use Rattle.linear.specs.Rows.{RowAdded, RowTimes, RowCopied, RowCleared, OnlyBelow}
 use Rattle.linear.specs.Elimination.{Holds, Keeps}
 use Rattle.linear.proofs.Span.{span-member, span-eq, span-trans, within-trans}
@@ -24,7 +24,7 @@ use Rattle.linear.proofs.Rows.{row-added, row-scaled, row-moved, only-r
 
 -- the equations in the first n places, each as one vector
 abbrev said : (n L T : ℕ) (a d : List ℕ) → ℕ → Col L ⊎ Col T → Octet
-said n L T a d = equation L T (inOctets (stored n L T a d))
+said n L T a d = equation L T (inOctets (storedSystem n L T a d))
 
 -- ---- what a step keeps
 
@@ -38,7 +38,7 @@ keeps-trans s u = record { says = same-span-trans octets (s .says) (u .says); ro
 pub keeps-added : {n L T : ℕ} {a d a₁ d₁ : List ℕ} (i k g : ℕ) → i < n → k < n → i ≢ k → RowAdded L i k g a a₁ → RowAdded T i k g d d₁
     → Keeps n L T a d a₁ d₁
 keeps-added {n} {L} {T} {a} {d} {a₁} {d₁} i k g hi hk ne sa sd = record {
-  says = added-same octets (added-both octets L T n (inOctets (stored n L T a d)) (inOctets (stored n L T a₁ d₁)) (row-added n i k g hk ne sa) (row-added n i k g hk ne sd));
+  says = added-same octets (added-both octets L T n (inOctets (storedSystem n L T a d)) (inOctets (storedSystem n L T a₁ d₁)) (row-added n i k g hk ne sa) (row-added n i k g hk ne sd));
   rows = only-row i n hi sa;
   symbols = only-row i n hi sd;
 }
@@ -47,7 +47,7 @@ keeps-added {n} {L} {T} {a} {d} {a₁} {d₁} i k g hi hk ne sa sd = record {
 pub keeps-scaled : {n L T : ℕ} {a d a₁ d₁ : List ℕ} (i x y : ℕ) → i < n → times y x ≡ 1 → RowTimes L i x a a₁ → RowTimes T i x d d₁
     → Keeps n L T a d a₁ d₁
 keeps-scaled {n} {L} {T} {a} {d} {a₁} {d₁} i x y hi e sa sd = record {
-  says = scaled-same octets (scaled-both octets L T n (inOctets (stored n L T a d)) (inOctets (stored n L T a₁ d₁)) (row-scaled n i x y hi e sa) (row-scaled n i x y hi e sd));
+  says = scaled-same octets (scaled-both octets L T n (inOctets (storedSystem n L T a d)) (inOctets (storedSystem n L T a₁ d₁)) (row-scaled n i x y hi e sa) (row-scaled n i x y hi e sd));
   rows = only-row i n hi sa;
   symbols = only-row i n hi sd;
 }
@@ -57,7 +57,7 @@ pub keeps-moved : {n L T : ℕ} {a d a₁ d₁ a₂ d₂ : List ℕ} (i k : ℕ)
     → ((c : ℕ) → c < L → cell L a i c ≡ 0) → ((t : ℕ) → t < T → cell T d i t ≡ 0)
     → RowCopied L i k a a a₁ → RowCopied T i k d d d₁ → RowCleared L k a₁ a₂ → RowCleared T k d₁ d₂ → Keeps n L T a d a₂ d₂
 keeps-moved {n} {L} {T} {a} {d} {a₁} {d₁} {a₂} {d₂} i k hi hk ne za zd sa sd ua ud = record {
-  says = swapped-same octets (swapped-both octets L T n (inOctets (stored n L T a d)) (inOctets (stored n L T a₂ d₂)) (row-moved n i k hi hk ne za sa ua) (row-moved n i k hi hk ne zd sd ud));
+  says = swapped-same octets (swapped-both octets L T n (inOctets (storedSystem n L T a d)) (inOctets (storedSystem n L T a₂ d₂)) (row-moved n i k hi hk ne za sa ua) (row-moved n i k hi hk ne zd sd ud));
   rows = only-trans (only-row i n hi sa) (only-row k n hk ua);
   symbols = only-trans (only-row i n hi sd) (only-row k n hk ud);
 }
@@ -98,7 +98,7 @@ keeps-more {n} {m} {L} {T} {a} {d} {a₁} {d₁} l s = record {
 -- ---- what the stores hold
 
 -- the same equations, in any order
-pub holds-included : {M L T : ℕ} {S : System ℕ} {a d : List ℕ} → Included L T (stored M L T a d) S → Included L T S (stored M L T a d)
+pub holds-included : {M L T : ℕ} {S : System ℕ} {a d : List ℕ} → Included L T (storedSystem M L T a d) S → Included L T S (storedSystem M L T a d)
     → Holds M L T S a d
 holds-included {L = L} {T = T} to back = record { to = follows-included octets L T (included-octets to); back = follows-included octets L T (included-octets back) }
 

@@ -25,8 +25,8 @@ pub record Block (L T : ℕ) (C : List ℕ) : Type 0 where
   pub bytes : Bytes C
 
 -- the M equations that two stores hold: the coefficients in a, row after row, and the symbols in d
-abbrev pub stored : (M L T : ℕ) (a d : List ℕ) → System ℕ
-stored M L T a d = record { count = M; coef = cell L a; byte = cell T d }
+abbrev pub storedSystem : (M L T : ℕ) (a d : List ℕ) → System ℕ
+storedSystem M L T a d = record { count = M; coef = cell L a; byte = cell T d }
 
 -- the symbols of S are of octets
 pub record OctetSymbols (T : ℕ) (S : System ℕ) : Type 0 where

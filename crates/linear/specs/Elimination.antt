@@ -7,17 +7,17 @@ use Prim.Native.Nat.{ℕ, _+_, _*_, _≤_, _<_}
 use Rattle.linear.specs.Span.{SameSpan}
 use Rattle.linear.specs.System.{System, equation, Follows}
 use Rattle.linear.specs.Octets.{octets}
-use Rattle.linear.specs.Bytes.{Bytes, cell, stored, inOctets}
+use Rattle.linear.specs.Bytes.{Bytes, cell, storedSystem, inOctets}
 use Rattle.linear.specs.Rows.{OnlyBelow}
 
 -- the M equations in the stores say what S says: each system follows from the other
 pub record Holds (M L T : ℕ) (S : System ℕ) (a d : List ℕ) : Type 0 where
-  pub to : Follows octets L T (inOctets S) (inOctets (stored M L T a d))
-  pub back : Follows octets L T (inOctets (stored M L T a d)) (inOctets S)
+  pub to : Follows octets L T (inOctets S) (inOctets (storedSystem M L T a d))
+  pub back : Follows octets L T (inOctets (storedSystem M L T a d)) (inOctets S)
 
 -- what a step from a, d to a₁, d₁ keeps: the first n equations say the same as before, and nothing changed but in them
 pub record Keeps (n L T : ℕ) (a d a₁ d₁ : List ℕ) : Type 0 where
-  pub says : SameSpan octets n (equation L T (inOctets (stored n L T a d))) (equation L T (inOctets (stored n L T a₁ d₁)))
+  pub says : SameSpan octets n (equation L T (inOctets (storedSystem n L T a d))) (equation L T (inOctets (storedSystem n L T a₁ d₁)))
   pub rows : OnlyBelow (n * L) a a₁
   pub symbols : OnlyBelow (n * T) d d₁
 

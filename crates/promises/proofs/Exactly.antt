@@ -2,17 +2,13 @@
 -- Assumes nothing.
 use mathlib.Core.Path.{_≡_, refl, sym, _∙_, subst}
 use mathlib.Core.Logic.{_≢_, _↔_}
-use mathlib.Core.Bool.{not}
 use mathlib.Core.List.{List}
 use Prim.Native.Nat.{ℕ, _+_, _*_, _≤_, _<_}
 use native.Mathlib.Omega.{arith}
-use borrow.Author.Tests.{ltb-false}
-use lib.Dec.{eqb, ltb}
-use lib.ListN.{length, getD}
+use lib.ListN.{getD}
 use Rattle.field.proofs.Laws.{times-lt}
-use Rattle.field.proofs.Refusals.{passed}
 use Rattle.field.proofs.Sums.{sum-lt}
-use Rattle.headers.specs.Row.{obeys, lOf}
+use Rattle.headers.specs.Row.{lOf}
 use Rattle.headers.specs.declared.row.Row.{Row}
 use Rattle.linear.specs.System.{System}
 use Rattle.linear.specs.Octets.{octets}
@@ -22,10 +18,10 @@ use Rattle.linear.proofs.Independent.{most-unique}
 use Rattle.linear.proofs.Rows.{only-past}
 use Rattle.elimination.specs.declared.verdict.Verdict.{Verdict}
 use Rattle.elimination.specs.declared.verdict.Verdict.the-variants.{Solved, Contradiction, Open}
-use Rattle.solver.specs.Display.{anyLarge}
-use Rattle.solver.specs.System.{systemOf}
+use Rattle.solver.specs.Order.{Sendable}
+use Rattle.solver.specs.System.{Admits, systemOf}
 use Rattle.solver.specs.declared.solver.Solution.the-variants.{Given}
-use Rattle.solver.proofs.Admitted.{Admits, admits}
+use Rattle.solver.proofs.Admitted.{admits}
 use Rattle.promises.specs.Calls.{Call, Fitting, Single, Several, MostRows, setIn}
 use Rattle.promises.proofs.Fitting.{fitting-fits, fits-fitting}
 
@@ -50,16 +46,12 @@ fits-octets {L} {T} {S} {C} f = record { below = λ i h b l. subst (λ (x : ℕ)
 module _ {v : List ℕ} {r : Row} {k t : ℕ} {es xs o o₁ : List ℕ} where
   -- what is known of a call that was not refused
   pub accepted : (w : Verdict) (c : Call r v k t es xs o o₁ (Given w))
-      → Admits r (length v) k t (length es) (anyLarge es) (length xs) (length (c .rows)) (length (c .values)) (length o)
-  accepted w c = admits r (length v) k t (length es) (anyLarge es) (length xs) (length (c .rows)) (length (c .values)) (length o) (c .contract .0)
+      → Admits r v k t es xs (c .rows) (c .values) o
+  accepted w c = admits r v k t es xs (c .rows) (c .values) o (c .contract .0)
 
-  -- K is 1 at least
-  pub k-low : (w : Verdict) → Call r v k t es xs o o₁ (Given w) → 1 ≤ k
-  k-low w c =
-      let p1 = passed (not (obeys r)) 4 _ tt (c .contract .0) in
-      let p2 = passed (not (eqb (length v) 1024)) 5 _ tt (p1 .1) in
-      let p3 = passed (anyLarge es) 9 _ tt (p2 .1) in
-      ltb-false k 1 (passed (ltb k 1) 9 _ tt (p3 .1) .0)
+  -- its row, tables, K and ESIs
+  pub sound : (w : Verdict) → Call r v k t es xs o o₁ (Given w) → Sendable r v k es
+  sound w c = accepted w c .fillable .sendable
 
   -- ---- what each verdict says
 

@@ -25,7 +25,7 @@ use Rattle.solver.specs.declared.solver.Solution.the-variants.{Given}
 use Rattle.solver.proofs.Holding.{row-arrival}
 use Rattle.promises.specs.Calls.{Call, Fitting, MostRows}
 use Rattle.promises.proofs.Equations.{fixed-row}
-use Rattle.promises.proofs.Exactly.{accepted, k-low, contradiction-none, solved-shortfall, solved-rows}
+use Rattle.promises.proofs.Exactly.{sound, contradiction-none, solved-shortfall, solved-rows}
 
 -- independent rows are at most as many as there are rows
 most-rows-few : (v : List ℕ) (r : Row) (k : ℕ) (es : List ℕ) (n : ℕ) → MostRows v r k es n → n ≤ equations r k (length es)
@@ -36,7 +36,7 @@ module _ {v : List ℕ} {r : Row} {k t : ℕ} {es xs o o₁ : List ℕ} where
   pub solved-takes : Call r v k t es xs o o₁ (Given Solved) → k ≤ length es
   solved-takes c =
       let h : lOf r ≤ equations r k (length es) = most-rows-few v r k es (lOf r) (solved-rows c) in
-      omega (arith, accepted Solved c .k-high)
+      omega (arith, sound Solved c .k-high)
 
   -- so fewer are never solved
   pub fewer-never-solved : length es < k → (w : Verdict) → Call r v k t es xs o o₁ (Given w) → w ≢ Solved
@@ -45,7 +45,7 @@ module _ {v : List ℕ} {r : Row} {k t : ℕ} {es xs o o₁ : List ℕ} where
   -- open with fewer than K arrivals lacks at least those that are missing
   pub open-takes : {s : ℕ} → Call r v k t es xs o o₁ (Given (Open s)) → k ≤ s + length es
   open-takes {s} c =
-      let high : k ≤ r .k = accepted (Open s) c .k-high in
+      let high : k ≤ r .kp = sound (Open s) c .k-high in
       let p = c .contract .1 .1 .lacks in
       let h : p .rank ≤ equations r k (length es) = most-rows-few v r k es (p .rank) (p .most) in
       omega (arith, p .less)
@@ -107,6 +107,6 @@ zero-fits v r k t xs = record {
 
 -- no arrivals give open, and K more at least are lacking
 pub none-open : {v : List ℕ} {r : Row} {k t : ℕ} {xs o o₁ : List ℕ} (w : Verdict) → Call r v k t [] xs o o₁ (Given w) → (s : ℕ) × (w ≡ Open s) × (k ≤ s)
-none-open Solved c = absurd (let h = solved-takes c in omega (arith, k-low Solved c))
+none-open Solved c = absurd (let h = solved-takes c in omega (arith, sound Solved c .k-low))
 none-open {v} {r} {k} {t} {xs} Contradiction c = absurd (contradiction-none c (nothing (lOf r * t)) (zero-fits v r k t xs))
 none-open (Open s) c = (s, refl, (let h = open-takes c in omega arith))

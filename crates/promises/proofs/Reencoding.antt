@@ -22,14 +22,13 @@ use Rattle.encoding.proofs.Allowed.{Allowed, encodes-done}
 use Rattle.elimination.specs.declared.verdict.Verdict.{Verdict}
 use Rattle.elimination.specs.declared.verdict.Verdict.the-variants.{Solved}
 use Rattle.solver.specs.declared.solver.Solution.the-variants.{Given}
-use Rattle.solver.proofs.Admitted.{small}
 use Rattle.promises.specs.Calls.{Call, Came, Meets, Fitting, Encoding, sent, setIn}
-use Rattle.promises.proofs.Exactly.{accepted, k-low, solved-single}
+use Rattle.promises.proofs.Exactly.{accepted, sound, solved-single}
 use Rattle.promises.proofs.Never.{encodes-sent, sent-fitting}
 
 -- only the first L·T octets of the intermediates are read
 sent-set : (v : List ℕ) (r : Row) (k t : ℕ) (C D : List ℕ) (e b : ℕ) → setIn r t C ≡ D → b < t → sent v r k t C e b ≡ sent v r k t D e b
-sent-set v r k t C D e b q l = sum-same (lOf r) (λ c h. ap (times (encOf v r (shifted e k (r .k)) c)) (at (c * t + b) (cell-lt t (lOf r) c b h l)))
+sent-set v r k t C D e b q l = sum-same (lOf r) (λ c h. ap (times (encOf v r (shifted e k (r .kp)) c)) (at (c * t + b) (cell-lt t (lOf r) c b h l)))
   where
     at : (x : ℕ) → x < lOf r * t → getD C x 0 ≡ getD D x 0
     at x h = sym (getD-take (lOf r * t) C x 0 h) ∙ ap (λ (z : List ℕ). getD z x 0) q
@@ -65,14 +64,14 @@ pub reencoding-done : {v : List ℕ} {r : Row} {k t : ℕ} {es xs o o₁ C : Lis
     → Call r v k t es xs o o₁ (Given w)
     → e < 16777216 → lOf r * t ≤ length C → t ≤ length ys → Encodes v r k t e C ys zs a → a ≡ Plains.Done
 reencoding-done {v} {r} {k} {t} {C = C} {e = e} {ys = ys} {a = a} w c sent enough room n =
-    let h = accepted w c in
+    let h = sound w c in
     let may : Allowed r (length v) k t e (length C) (length ys) = record {
       rules = h .rules;
-      all = h .whole;
-      k-low = k-low w c;
+      all = h .tables;
+      k-low = h .k-low;
       k-high = h .k-high;
-      sent = sent;
-      some = λ q. absurd (omega (arith, h .t-low));
+      esi-24 = sent;
+      some = λ q. absurd (omega (arith, accepted w c .t-low));
       enough = enough;
       fits = room;
     } in
@@ -81,4 +80,4 @@ reencoding-done {v} {r} {k} {t} {C = C} {e = e} {ys = ys} {a = a} w c sent enoug
 -- and that of an arrival is below 2^24
 pub came-small : {v : List ℕ} {r : Row} {k t : ℕ} {es xs o o₁ : List ℕ} {e : ℕ} {f : ℕ → ℕ} (w : Verdict) → Call r v k t es xs o o₁ (Given w) → Came t es xs e f
     → e < 16777216
-came-small {es = es} w c x = subst (λ (n : ℕ). n < 16777216) (sym (x .esi)) (small es (accepted w c .sent) (x .place) (x .below))
+came-small {es = es} w c x = subst (λ (n : ℕ). n < 16777216) (sym (x .esi)) (sound w c .ids (x .place) (x .below))

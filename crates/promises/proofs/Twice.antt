@@ -65,8 +65,8 @@ module _ {v : List ℕ} {r : Row} {k t : ℕ} {es xs o o₁ p p₁ : List ℕ} (
   -- the verdict is the same, with its shortfall, and so is the set
   pub repeat-changes-nothing : (w u : Verdict) → Call r v k t es xs o o₁ (Given w) → Call r v k t (es ++ (e ∷ [])) (xs ++ s) p p₁ (Given u)
       → (w ≡ u) × (w ≡ Solved → setIn r t o₁ ≡ setIn r t p₁)
-  repeat-changes-nothing w u c = order-free (among-more t e es xs s (accepted w c .all)) (none-new t e es xs s (accepted w c .all) came) w u c
+  repeat-changes-nothing w u c = order-free (among-more t e es xs s (accepted w c .fillable .all)) (none-new t e es xs s (accepted w c .fillable .all) came) w u c
 
   -- and so is the whole out store, if it was the same before
   pub repeat-changes-no-octet : o ≡ p → (w u : Verdict) → Call r v k t es xs o o₁ (Given w) → Call r v k t (es ++ (e ∷ [])) (xs ++ s) p p₁ (Given u) → o₁ ≡ p₁
-  repeat-changes-no-octet q w u c = order-free-out (among-more t e es xs s (accepted w c .all)) (none-new t e es xs s (accepted w c .all) came) q w u c
+  repeat-changes-no-octet q w u c = order-free-out (among-more t e es xs s (accepted w c .fillable .all)) (none-new t e es xs s (accepted w c .fillable .all) came) q w u c

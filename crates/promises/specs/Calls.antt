@@ -48,13 +48,13 @@ pub record Among (t : ℕ) (es xs fs ys : List ℕ) : Type 0 where
 
 -- octet b of the symbol that the sender of the set C sends for the ESI e (RFC 6330, 5.3.5.3)
 abbrev pub sent : List ℕ → Row → ℕ → ℕ → List ℕ → ℕ → ℕ → ℕ
-sent v r k t C e b = encoded v r (shifted e k (r .k)) t C b
+sent v r k t C e b = encoded v r (shifted e k (r .kp)) t C b
 
 -- C meets the pre-code (RFC 6330, 5.3.3.3: S LDPC and H HDPC rows give 0) and the padding (5.3.1: so do the ISIs K .. K' - 1)
 pub record Meets (v : List ℕ) (r : Row) (k t : ℕ) (C : List ℕ) : Type 0 where
   pub ldpc : (i : ℕ) → i < r .s → (b : ℕ) → b < t → combined t C (lOf r) (ldpcOf r i) b ≡ 0
   pub hdpc : (i : ℕ) → i < r .h → (b : ℕ) → b < t → combined t C (lOf r) (hdpcOf v r i) b ≡ 0
-  pub padding : (x : ℕ) → k ≤ x → x < r .k → (b : ℕ) → b < t → encoded v r x t C b ≡ 0
+  pub padding : (x : ℕ) → k ≤ x → x < r .kp → (b : ℕ) → b < t → encoded v r x t C b ≡ 0
 
 -- every symbol that arrived is what C yields for its ESI
 pub record Yields (v : List ℕ) (r : Row) (k t : ℕ) (es xs C : List ℕ) : Type 0 where

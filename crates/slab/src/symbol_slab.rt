@@ -1,4 +1,5 @@
-// Symbols in lent bytes (symbol_slab.rs of the crate). A logical symbol i is the T bytes from place p · T on, where p is what
+// Ported from symbol_slab.rs of raptorq 2.0.1 (Apache-2.0) and changed.
+// Symbols in lent bytes. A logical symbol i is the T bytes from place p · T on, where p is what
 // the order says of i, and i itself if the order is empty. Each call is given the slab's numbers, its bytes and its order.
 ghost use mathlib.Core.Path.{_≡_};
 ghost use lib.ListN.{length};
@@ -6,6 +7,7 @@ ghost use Rattle.field.specs.Answer.{done};
 ghost use Rattle.slab.specs.Slab.{Reached, SymbolScaled, SymbolsAdded, SymbolsFused, Zeroed};
 ghost use Rattle.slab.specs.Slab.{located, paired, physical, placed, range, shown, strange, symbol};
 use crate::beneath::symbols;
+use field::beneath::runs;
 use field::refusal::Answer;
 use field::refusal::Refusal;
 
@@ -98,7 +100,7 @@ pub fn with_zeros(store: &mut [u8], count: usize, size: u16) -> Made
     if store.len() < n {
         return Made::Refused(Refusal::WrongLength);
     }
-    symbols::clear(store, n);
+    runs::clear(store, 0, n);
     Made::Slab(SymbolSlab { count, size })
 }
 

@@ -1,6 +1,6 @@
 -- What is displayed: the loops over the ids, the place of a symbol, and that the contracts settle the answer.
 -- Assumes nothing.
-use mathlib.Core.Path.{_≡_, refl, sym, ap}
+use mathlib.Core.Path.{_≡_, refl, ap}
 use mathlib.Core.Bool.{Bool, true, false, not}
 use mathlib.Core.List.{List, [], _∷_}
 use Prim.Native.Nat.{ℕ, zero, suc, _+_, _*_, _≤_, _<_}
@@ -10,11 +10,11 @@ use borrow.Author.Tests.{eq-eqb, ne-eqb, ltb-true, ltb-false, leb-false, eqb-tru
 use lib.Dec.{leb, ltb, eqb}
 use lib.ListN.{length, getD}
 use Rattle.field.specs.Choice.{pick}
-use Rattle.field.specs.Answer.{given, numberOf}
+use Rattle.field.specs.Answer.{given}
 use Rattle.field.proofs.Parts.{block-ends}
-use Rattle.field.proofs.Answers.{given-only, refused-only, given-not-refused, number-only}
+use Rattle.field.proofs.Answers.{given-only, named-number, answerOf, answer-only}
 use Rattle.field.proofs.Refusals.{passed, passed-before}
-use Rattle.solver.specs.Display.{anyLarge, standing, answerable, Place, arrived, rebuilt, whereof, located, outcome}
+use Rattle.solver.specs.Display.{anyLarge, standing, answerable, Place, arrived, rebuilt, whereof, located, placeOutcome}
 use Rattle.solver.specs.declared.display.Shown.{Shown}
 use Rattle.solver.specs.declared.display.Shown.the-variants as Showns
 
@@ -47,17 +47,18 @@ unfolding standing
 standing-none [] i n = refl
 standing-none (x ∷ es) i n = rw (ne-eqb x i (n 0 (omega arith))) (ap suc (standing-none es i (λ q l. n (suc q) (omega arith))))
 
+abbrev shownAt : Place → Shown
+shownAt (arrived s) = Showns.Arrived s
+shownAt (rebuilt s) = Showns.Rebuilt s
+
+located-back : (a : Shown) → answerOf shownAt Showns.Refused (placeOutcome a) ≡ a
+located-back (Showns.Arrived s) = refl
+located-back (Showns.Rebuilt s) = refl
+located-back (Showns.Refused w) = ap Showns.Refused (named-number w)
+
 -- the answer of `locate` is settled
-pub located-only : (p q : Shown) → outcome p ≡ outcome q → p ≡ q
-located-only (Showns.Arrived a) (Showns.Arrived b) e = cc
-located-only (Showns.Arrived a) (Showns.Rebuilt b) e = absurd (let z : _≡_ {A = ℕ} 0 1 = cc in omega arith)
-located-only (Showns.Arrived a) (Showns.Refused w) e = absurd (given-not-refused (arrived a) (numberOf w) e)
-located-only (Showns.Rebuilt a) (Showns.Arrived b) e = absurd (let z : _≡_ {A = ℕ} 0 1 = cc in omega arith)
-located-only (Showns.Rebuilt a) (Showns.Rebuilt b) e = cc
-located-only (Showns.Rebuilt a) (Showns.Refused w) e = absurd (given-not-refused (rebuilt a) (numberOf w) e)
-located-only (Showns.Refused v) (Showns.Arrived b) e = absurd (given-not-refused (arrived b) (numberOf v) (sym e))
-located-only (Showns.Refused v) (Showns.Rebuilt b) e = absurd (given-not-refused (rebuilt b) (numberOf v) (sym e))
-located-only (Showns.Refused v) (Showns.Refused w) e = ap Showns.Refused (number-only v w (refused-only {A = Place} (numberOf v) (numberOf w) e))
+pub located-only : (p q : Shown) → placeOutcome p ≡ placeOutcome q → p ≡ q
+located-only = answer-only placeOutcome shownAt Showns.Refused located-back
 
 -- what a call that is not refused has made sure of
 pub record Asked (n came built k t i : ℕ) : Type 0 where

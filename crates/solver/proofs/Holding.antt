@@ -15,11 +15,11 @@ use Rattle.constraints.specs.Encoding.{encOf}
 use Rattle.constraints.specs.Hdpc.{hdpcOf}
 use Rattle.constraints.specs.Ldpc.{ldpcOf}
 use Rattle.linear.specs.System.{System, SameEquation, Included}
-use Rattle.linear.specs.Bytes.{Bytes, OctetSymbols, cell, stored}
+use Rattle.linear.specs.Bytes.{Bytes, OctetSymbols, cell, storedSystem}
 use Rattle.linear.specs.Elimination.{Holds}
 use Rattle.linear.proofs.Keeping.{holds-included}
-use Rattle.solver.specs.Order.{Sendable, sent, isiOf, keyOf, placeOf}
-use Rattle.solver.specs.System.{Filled, Laid, fixed, equations, sentRow, rowOf, byteOf, systemOf}
+use Rattle.solver.specs.Order.{Sendable, isiRows, isiOf, keyOf, placeOf}
+use Rattle.solver.specs.System.{RowsFilled, SymbolsFilled, fixed, equations, sentRow, rowOf, byteOf, systemOf}
 use Rattle.solver.proofs.Order.{place-below, place-onto, degree-small}
 
 module _ (r : Row) (v : List ℕ) (k t : ℕ) (es xs : List ℕ) where
@@ -55,7 +55,7 @@ module _ (r : Row) (v : List ℕ) (k t : ℕ) (es xs : List ℕ) where
   pub arrival-byte : (i b : ℕ) → byteOf r k t xs (fixed r k + i) b ≡ cell t xs i b
   arrival-byte i b = byte-arrival (fixed r k + i) b (omega arith) ∙ ap (λ (x : ℕ). cell t xs x b) (add-sub-cancel-left (fixed r k) i)
 
-  isi-arrival : (i : ℕ) → i < length es → isiOf r k es i ≡ shifted (getD es i 0) k (r .k)
+  isi-arrival : (i : ℕ) → i < length es → isiOf r k es i ≡ shifted (getD es i 0) k (r .kp)
   unfolding isiOf
   isi-arrival i h = rw (lt-ltb i (length es) h)
 
@@ -71,9 +71,9 @@ module _ (r : Row) (v : List ℕ) (k t : ℕ) (es xs : List ℕ) where
       go i b (yes h) = subst (λ (x : ℕ). x < 256) (sym (byte-fixed i b h)) (omega arith)
       go i b (no h) = subst (λ (x : ℕ). x < 256) (sym (byte-arrival i b (omega arith))) (small _)
 
-  module _ {a₀ a d₀ d : List ℕ} (ready : Sendable r v k es) (f : Filled r v k es a₀ a) (w : Laid r v k t es xs d₀ d) (all : length xs ≡ length es * t) where
+  module _ {a₀ a d₀ d : List ℕ} (ready : Sendable r v k es) (f : RowsFilled r v k es a₀ a) (w : SymbolsFilled r v k t es xs d₀ d) (all : length xs ≡ length es * t) where
     abbrev n : ℕ
-    n = sent r k es
+    n = isiRows r k es
 
     abbrev M : ℕ
     M = equations r k (length es)
@@ -82,7 +82,7 @@ module _ (r : Row) (v : List ℕ) (k t : ℕ) (es xs : List ℕ) where
     S = systemOf r v k t es xs
 
     abbrev R : System ℕ
-    R = stored M (lOf r) t a d
+    R = storedSystem M (lOf r) t a d
 
     abbrev at : ℕ → ℕ
     at = placeOf v r k es

@@ -38,10 +38,10 @@ whereof t es i = pick (ltb (standing es i) (length es)) (arrived (standing es i 
 abbrev pub located : ℕ → ℕ → List ℕ → ℕ → ℕ → ℕ → Outcome Place
 located k t es came built i = before (answerable (length es) (anyLarge es) came built k t i) (given (whereof t es i))
 
-abbrev pub outcome : Shown → Outcome Place
-outcome (Showns.Arrived s) = given (arrived s)
-outcome (Showns.Rebuilt s) = given (rebuilt s)
-outcome (Showns.Refused why) = refused (numberOf why)
+abbrev pub placeOutcome : Shown → Outcome Place
+placeOutcome (Showns.Arrived s) = given (arrived s)
+placeOutcome (Showns.Rebuilt s) = given (rebuilt s)
+placeOutcome (Showns.Refused why) = refused (numberOf why)
 
 -- the bytes themselves, or the empty part
 abbrev pub shown : ℕ → Outcome Place → List ℕ → List ℕ → List ℕ

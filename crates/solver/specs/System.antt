@@ -19,13 +19,13 @@ use Rattle.linear.specs.System.{System}
 use Rattle.linear.specs.Bytes.{cell}
 use Rattle.elimination.specs.Verdict.{Means}
 use Rattle.solver.specs.Display.{anyLarge}
-use Rattle.solver.specs.Order.{sent, isiOf, placeOf}
+use Rattle.solver.specs.Order.{Sendable, isiRows, isiOf, placeOf}
 use Rattle.solver.specs.declared.solver.Solution.{Solution}
 use Rattle.solver.specs.declared.solver.Solution.the-variants.{Given, Refused}
 
 -- S LDPC rows, H HDPC rows and K' - K padding rows
 abbrev pub fixed : Row → ℕ → ℕ
-fixed r k = r .s + r .h + (r .k - k)
+fixed r k = r .s + r .h + (r .kp - k)
 
 -- M
 abbrev pub equations : Row → ℕ → ℕ → ℕ
@@ -33,7 +33,7 @@ equations r k n = fixed r k + n
 
 -- the row of an encoding symbol id (RFC 6330, 5.3.5.3), by its ISI (5.3.1)
 abbrev pub sentRow : List ℕ → Row → ℕ → ℕ → ℕ → ℕ
-sentRow v r k e c = encOf v r (shifted e k (r .k)) c
+sentRow v r k e c = encOf v r (shifted e k (r .kp)) c
 
 -- row i: LDPC and HDPC (RFC 6330, 5.3.3.3), the padding ISIs K .. K' - 1, the arrivals (5.3.3.4)
 unfoldable pub rowOf : List ℕ → Row → ℕ → List ℕ → ℕ → ℕ → ℕ
@@ -52,7 +52,7 @@ abbrev pub systemOf : Row → List ℕ → ℕ → ℕ → List ℕ → List ℕ
 systemOf r v k t es xs = record { count = equations r k (length es); coef = rowOf v r k es; byte = byteOf r k t xs }
 
 -- rows of w octets in a store, one after the other: ys is xs, but that the n rows from row `from` on are f 0, f 1, ..
-pub record Rows (w : ℕ) (f : ℕ → ℕ → ℕ) (xs ys : List ℕ) (from n : ℕ) : Type 0 where
+pub record RowsLaid (w : ℕ) (f : ℕ → ℕ → ℕ) (xs ys : List ℕ) (from n : ℕ) : Type 0 where
   pub size : length ys ≡ length xs
   pub row : (i : ℕ) → i < n → (c : ℕ) → c < w → cell w ys (from + i) c ≡ f i c
   pub low : (k : ℕ) → k < from * w → getD ys k 0 ≡ getD xs k 0
@@ -60,20 +60,33 @@ pub record Rows (w : ℕ) (f : ℕ → ℕ → ℕ) (xs ys : List ℕ) (from n :
 
 -- a store that was filled with the coefficients: arrivals and padding rows in an order of their own, then LDPC and HDPC rows. That is faster, and
 -- not seen from outside.
-pub record Filled (r : Row) (v : List ℕ) (k : ℕ) (es xs ys : List ℕ) : Type 0 where
+pub record RowsFilled (r : Row) (v : List ℕ) (k : ℕ) (es xs ys : List ℕ) : Type 0 where
   pub size : length ys ≡ length xs
-  pub row : (i : ℕ) → i < sent r k es → (c : ℕ) → c < lOf r → cell (lOf r) ys (placeOf v r k es i) c ≡ encOf v r (isiOf r k es i) c
-  pub ldpc : (i : ℕ) → i < r .s → (c : ℕ) → c < lOf r → cell (lOf r) ys (sent r k es + i) c ≡ ldpcOf r i c
-  pub hdpc : (i : ℕ) → i < r .h → (c : ℕ) → c < lOf r → cell (lOf r) ys (sent r k es + r .s + i) c ≡ hdpcOf v r i c
+  pub row : (i : ℕ) → i < isiRows r k es → (c : ℕ) → c < lOf r → cell (lOf r) ys (placeOf v r k es i) c ≡ encOf v r (isiOf r k es i) c
+  pub ldpc : (i : ℕ) → i < r .s → (c : ℕ) → c < lOf r → cell (lOf r) ys (isiRows r k es + i) c ≡ ldpcOf r i c
+  pub hdpc : (i : ℕ) → i < r .h → (c : ℕ) → c < lOf r → cell (lOf r) ys (isiRows r k es + r .s + i) c ≡ hdpcOf v r i c
   pub high : (x : ℕ) → equations r k (length es) * lOf r ≤ x → getD ys x 0 ≡ getD xs x 0
 
 -- a store that was filled with the symbols xs of the call in the same order: there is none past the last arrival, and a place past the end of xs
 -- reads 0
-pub record Laid (r : Row) (v : List ℕ) (k t : ℕ) (es xs d d₁ : List ℕ) : Type 0 where
+pub record SymbolsFilled (r : Row) (v : List ℕ) (k t : ℕ) (es xs d d₁ : List ℕ) : Type 0 where
   pub size : length d₁ ≡ length d
-  pub symbol : (i : ℕ) → i < sent r k es → (b : ℕ) → b < t → cell t d₁ (placeOf v r k es i) b ≡ cell t xs i b
-  pub blank : (i : ℕ) → i < r .s + r .h → (b : ℕ) → b < t → cell t d₁ (sent r k es + i) b ≡ 0
+  pub symbol : (i : ℕ) → i < isiRows r k es → (b : ℕ) → b < t → cell t d₁ (placeOf v r k es i) b ≡ cell t xs i b
+  pub blank : (i : ℕ) → i < r .s + r .h → (b : ℕ) → b < t → cell t d₁ (isiRows r k es + i) b ≡ 0
   pub high : (x : ℕ) → equations r k (length es) * t ≤ x → getD d₁ x 0 ≡ getD d x 0
+
+-- a call that is not refused has made sure that its system can be filled in
+pub record Fillable (r : Row) (v : List ℕ) (k t : ℕ) (es xs a d : List ℕ) : Type 0 where
+  pub sendable : Sendable r v k es
+  pub all : length xs ≡ length es * t
+  pub room-rows : equations r k (length es) * lOf r ≤ length a
+  pub room-values : equations r k (length es) * t ≤ length d
+
+-- and solved: the theorem `admits` says that this is what `admitted` asks
+pub record Admits (r : Row) (v : List ℕ) (k t : ℕ) (es xs a d o : List ℕ) : Type 0 where
+  pub fillable : Fillable r v k t es xs a d
+  pub t-low : 0 < t
+  pub room-out : lOf r * t ≤ length o
 
 -- refusal 8: stores of a, d and o octets, for n arrivals
 abbrev pub roomToSolve : Row → ℕ → ℕ → ℕ → ℕ → ℕ → ℕ → Outcome (Unit {0})
@@ -85,7 +98,7 @@ roomToSolve r k t n a d o =
 abbrev pub solvable : Row → ℕ → ℕ → ℕ → ℕ → Bool → ℕ → ℕ → ℕ → ℕ → Outcome (Unit {0})
 solvable r tables k t n large came a d o =
     unless (not (obeys r)) 4 (unless (not (eqb tables 1024)) 5
-    (unless large 9 (unless (ltb k 1) 9 (unless (ltb (r .k) k) 9 (unless (ltb 65535 n) 9
+    (unless large 9 (unless (ltb k 1) 9 (unless (ltb (r .kp) k) 9 (unless (ltb 65535 n) 9
     (unless (eqb t 0) 10 (unless (not (eqb came (n * t))) 10 (roomToSolve r k t n a d o))))))))
 
 -- the same, of a call

@@ -3,7 +3,7 @@ ghost use mathlib.Core.Path.{_≡_};
 ghost use Prim.Native.Nat.{_≤_};
 ghost use lib.ListN.{length};
 ghost use Rattle.field.specs.Answer.{done, given};
-ghost use Rattle.solver.specs.Display.{answerable, located, outcome, shown, standing, whereof};
+ghost use Rattle.solver.specs.Display.{answerable, located, placeOutcome, shown, standing, whereof};
 use crate::beneath::esis;
 use field::refusal::Answer;
 use field::refusal::Refusal;
@@ -63,7 +63,7 @@ fn may(n: usize, large: bool, came: usize, built: usize, k: u32, t: u16, i: u32)
 // Where it begins, once nothing is refused.
 fn place(t: u16, esis: &[u32], i: u32) -> Shown
     requires { ⌜ (length (now esis) ≤ 65535) × (i ≤ 56403) ⌝ }
-    ensures { λ r. ⌜ outcome r ≡ given (whereof t (now (esis .entry)) i) ⌝ }
+    ensures { λ r. ⌜ placeOutcome r ≡ given (whereof t (now (esis .entry)) i) ⌝ }
 {
     let p = first(esis, i);
     if p < esis.len() {
@@ -74,7 +74,7 @@ fn place(t: u16, esis: &[u32], i: u32) -> Shown
 
 // Where symbol i begins, among arrivals of `came` bytes and a rebuilt store of `built`. It tells the refusals of `display`.
 pub fn locate(k: u32, t: u16, esis: &[u32], came: usize, built: usize, i: u32) -> Shown
-    ensures { λ r. ⌜ outcome r ≡ located k t (now (esis .entry)) came built i ⌝ }
+    ensures { λ r. ⌜ placeOutcome r ≡ located k t (now (esis .entry)) came built i ⌝ }
 {
     let fine = may(esis.len(), esis::any_large(esis), came, built, k, t, i);
     match fine {

@@ -20,11 +20,11 @@ pub enum Solution {
 
 // Refusal 8: a store is too short for M rows of L octets, for M symbols, or for L symbols.
 fn room(r: Row, k: u32, t: u16, n: usize, rows: usize, values: usize, out: usize) -> Answer
-    requires { ⌜ Obeys r × (k ≤ r .k) × (n ≤ 65535) ⌝ }
+    requires { ⌜ Obeys r × (k ≤ r .kp) × (n ≤ 65535) ⌝ }
     ensures { λ a. ⌜ done a ≡ roomToSolve r k t n rows values out ⌝ }
 {
-    let m = (r.s + r.h + (r.k - k)) as usize + n;
-    let l = (r.k + r.s + r.h) as usize;
+    let m = (r.s + r.h + (r.kp - k)) as usize + n;
+    let l = (r.kp + r.s + r.h) as usize;
     if rows < m * l {
         return Answer::Refused(Refusal::WrongLength);
     }
@@ -64,7 +64,7 @@ fn may(
     if k < 1 {
         return Answer::Refused(Refusal::BadCount);
     }
-    if k > r.k {
+    if k > r.kp {
         return Answer::Refused(Refusal::BadCount);
     }
     if n > 65535 {
@@ -91,7 +91,8 @@ pub fn solve(
     values: &mut [u8],
     out: &mut [u8],
 ) -> Solution
-    ensures { λ a. ⌜ Solves r (now (tables .entry)) k t (now (esis .entry)) (now (symbols .entry)) (now (rows .entry)) (now (values .entry)) (now (out .entry)) (now (rows .exit)) (now (values .exit)) (now (out .exit)) a ⌝ }
+    ensures { λ a. ⌜ Solves r (now (tables .entry)) k t (now (esis .entry)) (now (symbols .entry)) (now (rows .entry)) (now (values .entry)) (now (out .entry))
+        (now (rows .exit)) (now (values .exit)) (now (out .exit)) a ⌝ }
 {
     let fine = may(
         r,

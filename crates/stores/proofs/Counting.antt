@@ -14,7 +14,8 @@ use lib.Seq.{getD-append-add}
 use Rattle.field.specs.Runs.{Written}
 use Rattle.field.proofs.Writing.{written-none, written-is, written-from, written-as}
 use Rattle.field.proofs.Parts.{written-then}
-use Rattle.stores.specs.Counting.{tally, ones, Listed}
+use Rattle.field.specs.Ones.{ones}
+use Rattle.stores.specs.Counting.{tally, Listed}
 
 module _ (f : ℕ → ℕ) (start : ℕ) where
   pub tally-none : tally f start 0 ≡ 0

@@ -1,18 +1,18 @@
 -- Each public function of `matrix` is settled by its contract: two results that it allows, answers and memory, are the same.
 -- Assumes nothing.
-use mathlib.Core.Path.{_≡_, sym, ap, _∙_}
+use mathlib.Core.Path.{_≡_, refl, sym, ap, _∙_}
 use mathlib.Core.List.{List}
 use Prim.Native.Nat.{ℕ, _+_, _-_, _/_, _%_}
 use lib.ListN.{length, getD}
-use Rattle.field.specs.Answer.{numberOf, done, outcome}
+use Rattle.field.specs.Answer.{done, octetOutcome}
 use Rattle.field.specs.Runs.{added, part}
 use Rattle.field.specs.declared.octet.Answer.{Answer}
-use Rattle.field.proofs.Answers.{given-only, given-not-refused, refused-only, number-only, outcome-only}
+use Rattle.field.proofs.Answers.{named-number, answerOf, answer-only, outcome-only}
 use Rattle.field.proofs.Refusals.{Settled, settled, settled-written, done-only}
 use Rattle.stores.specs.Bits.{withBit, crossedFrom}
 use Rattle.stores.specs.Rows.{Exchanged, packedTo}
-use Rattle.stores.specs.Counting.{ones}
-use Rattle.stores.specs.Matrix.{made, counted, entry, shape, rowAt, rowWords, wordsOf, oneOf, got, onesOf, Cleared, EntrySet, RowsListed, ColumnsListed, RowsSwapped, ColumnsSwapped, RowsAdded, Resized}
+use Rattle.field.specs.Ones.{ones}
+use Rattle.stores.specs.Matrix.{matrixOutcome, counted, entry, shape, rowAt, rowWords, wordsOf, oneOf, got, onesOf, Cleared, EntrySet, RowsListed, ColumnsListed, RowsSwapped, ColumnsSwapped, RowsAdded, Resized}
 use Rattle.stores.specs.declared.matrix.DenseBinaryMatrix.{DenseBinaryMatrix}
 use Rattle.stores.specs.declared.matrix.Made.{Made}
 use Rattle.stores.specs.declared.matrix.Made.the-variants as Mades
@@ -20,24 +20,26 @@ use Rattle.stores.specs.declared.matrix.Count.{Count}
 use Rattle.stores.specs.declared.matrix.Count.the-variants as Counts
 use Rattle.stores.proofs.Rows.{exchanged-once}
 
-pub made-only : (a b : Made) → made a ≡ made b → a ≡ b
-made-only (Mades.Matrix s) (Mades.Matrix u) e = ap Mades.Matrix (given-only s u e)
-made-only (Mades.Matrix s) (Mades.Refused w) e = absurd (given-not-refused s (numberOf w) e)
-made-only (Mades.Refused v) (Mades.Matrix u) e = absurd (given-not-refused u (numberOf v) (sym e))
-made-only (Mades.Refused v) (Mades.Refused w) e = ap Mades.Refused (number-only v w (refused-only (numberOf v) (numberOf w) e))
+made-back : (a : Made) → answerOf Mades.Matrix Mades.Refused (matrixOutcome a) ≡ a
+made-back (Mades.Matrix m) = refl
+made-back (Mades.Refused w) = ap Mades.Refused (named-number w)
 
-pub counted-only : (a b : Count) → counted a ≡ counted b → a ≡ b
-counted-only (Counts.Ones s) (Counts.Ones u) e = ap Counts.Ones (given-only s u e)
-counted-only (Counts.Ones s) (Counts.Refused w) e = absurd (given-not-refused s (numberOf w) e)
-counted-only (Counts.Refused v) (Counts.Ones u) e = absurd (given-not-refused u (numberOf v) (sym e))
-counted-only (Counts.Refused v) (Counts.Refused w) e = ap Counts.Refused (number-only v w (refused-only (numberOf v) (numberOf w) e))
+pub made-only : (p q : Made) → matrixOutcome p ≡ matrixOutcome q → p ≡ q
+made-only = answer-only matrixOutcome Mades.Matrix Mades.Refused made-back
+
+counted-back : (a : Count) → answerOf Counts.Ones Counts.Refused (counted a) ≡ a
+counted-back (Counts.Ones n) = refl
+counted-back (Counts.Refused w) = ap Counts.Refused (named-number w)
+
+pub counted-only : (p q : Count) → counted p ≡ counted q → p ≡ q
+counted-only = answer-only counted Counts.Ones Counts.Refused counted-back
 
 module _ (xs : List ℕ) where
   pub new-once : (height width : ℕ) → Settled (Cleared xs height width)
-  new-once height width = settled-written made made-only _ xs (λ k. 0) 0 (wordsOf (shape height width))
+  new-once height width = settled-written matrixOutcome made-only _ xs (λ k. 0) 0 (wordsOf (shape height width))
 
 module _ (xs : List ℕ) (m : DenseBinaryMatrix) where
-  pub get-once : (i j : ℕ) (a b : Answer) → outcome a ≡ got xs m i j → outcome b ≡ got xs m i j → a ≡ b
+  pub get-once : (i j : ℕ) (a b : Answer) → octetOutcome a ≡ got xs m i j → octetOutcome b ≡ got xs m i j → a ≡ b
   get-once i j a b p q = outcome-only a b (p ∙ sym q)
 
   pub set-once : (i j v : ℕ) → Settled (EntrySet xs m i j v)
@@ -67,4 +69,4 @@ module _ (xs : List ℕ) (m : DenseBinaryMatrix) where
       settled-written done done-only _ xs (added xs (rowAt m dest) (part xs (rowAt m src) (rowWords (m .width)))) (rowAt m dest) (rowWords (m .width))
 
   pub resize-once : (height width : ℕ) → Settled (Resized xs m height width)
-  resize-once height width = settled-written made made-only _ xs (packedTo xs (rowWords width) (rowWords (m .width))) 0 (wordsOf (shape height width))
+  resize-once height width = settled-written matrixOutcome made-only _ xs (packedTo xs (rowWords width) (rowWords (m .width))) 0 (wordsOf (shape height width))

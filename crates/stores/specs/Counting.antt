@@ -1,22 +1,16 @@
 -- How many, and which, of a run of places hold a one.
 -- Assumes nothing.
 use mathlib.Core.Path.{_≡_}
-use mathlib.Core.List.{List, [], _∷_, _++_}
+use mathlib.Core.List.{List}
 use Prim.Native.Nat.{ℕ, zero, suc, _+_}
-use lib.Dec.{eqb}
 use lib.ListN.{length, getD}
-use Rattle.field.specs.Choice.{pick}
+use Rattle.field.specs.Ones.{ones}
 use Rattle.field.specs.Runs.{Written}
 
 -- how many of the n places from `start` on; f is 0 or 1 at each
 unfoldable pub tally : (ℕ → ℕ) → ℕ → ℕ → ℕ
 tally f start zero = 0
 tally f start (suc n) = tally f start n + f (start + n)
-
--- which of them, in rising order
-unfoldable pub ones : (ℕ → ℕ) → ℕ → ℕ → List ℕ
-ones f start zero = []
-ones f start (suc n) = pick (eqb (f (start + n)) 0) (ones f start n) (ones f start n ++ ((start + n) ∷ []))
 
 -- the list l stands at the front of a store; the rest of its room stays
 abbrev pub AtFront : List ℕ → List ℕ → List ℕ → Type 0

@@ -7,11 +7,12 @@ use lib.Dec.{eqb, ltb, leb}
 use lib.ListN.{length, getD}
 use Rattle.field.specs.Answer.{Outcome, given, refused, unless, before, Does, done, numberOf}
 use Rattle.field.specs.Choice.{pick}
+use Rattle.field.specs.Ones.{ones}
 use Rattle.field.specs.Runs.{Written, part, added}
 use Rattle.field.specs.declared.refusal.Answer.{Answer}
 use Rattle.stores.specs.Bits.{bitAt, withBit, crossedFrom}
 use Rattle.stores.specs.Rows.{packedTo, Exchanged}
-use Rattle.stores.specs.Counting.{tally, ones, AtFront}
+use Rattle.stores.specs.Counting.{tally, AtFront}
 use Rattle.stores.specs.declared.matrix.DenseBinaryMatrix.{DenseBinaryMatrix}
 use Rattle.stores.specs.declared.matrix.Made.{Made}
 use Rattle.stores.specs.declared.matrix.Made.the-variants as Mades
@@ -86,9 +87,9 @@ shrinkable len m new =
     (given tt))))
 
 -- what the answers stand for
-abbrev pub made : Made → Outcome DenseBinaryMatrix
-made (Mades.Matrix m) = given m
-made (Mades.Refused why) = refused (numberOf why)
+abbrev pub matrixOutcome : Made → Outcome DenseBinaryMatrix
+matrixOutcome (Mades.Matrix m) = given m
+matrixOutcome (Mades.Refused why) = refused (numberOf why)
 
 abbrev pub counted : Count → Outcome ℕ
 counted (Counts.Ones n) = given n
@@ -98,7 +99,7 @@ counted (Counts.Refused why) = refused (numberOf why)
 
 abbrev pub Cleared : List ℕ → ℕ → ℕ → Made → List ℕ → Type 0
 Cleared xs height width =
-    Does made (before (stored (length xs) (shape height width)) (given (shape height width))) xs
+    Does matrixOutcome (before (stored (length xs) (shape height width)) (given (shape height width))) xs
     (λ ys. Written (λ k. 0) xs ys 0 (wordsOf (shape height width)))
 
 abbrev pub got : List ℕ → DenseBinaryMatrix → ℕ → ℕ → Outcome ℕ
@@ -142,5 +143,5 @@ RowsAdded xs m dest src =
 
 abbrev pub Resized : List ℕ → DenseBinaryMatrix → ℕ → ℕ → Made → List ℕ → Type 0
 Resized xs m height width =
-    Does made (before (shrinkable (length xs) m (shape height width)) (given (shape height width))) xs
+    Does matrixOutcome (before (shrinkable (length xs) m (shape height width)) (given (shape height width))) xs
     (λ ys. Written (packedTo xs (rowWords width) (rowWords (m .width))) xs ys 0 (wordsOf (shape height width)))

@@ -1,9 +1,10 @@
-// The binary matrix (matrix.rs of the crate) over lent words: a row takes ceil(width / 64) of them, column c is bit c mod 64 of
+// Ported from matrix.rs of raptorq 2.0.1 (Apache-2.0) and changed.
+// The binary matrix over lent words: a row takes ceil(width / 64) of them, column c is bit c mod 64 of
 // its word c / 64. Row operations work on whole words; `get`, the counts and the lists never read a bit past the width.
 ghost use mathlib.Core.Path.{_≡_};
 ghost use Prim.Native.Nat.{_-_, _<_};
 ghost use lib.Dec.{ltb};
-ghost use Rattle.field.specs.Answer.{done, outcome};
+ghost use Rattle.field.specs.Answer.{done, octetOutcome};
 ghost use Rattle.stores.specs.Matrix.{Cleared, ColumnsListed, ColumnsSwapped, EntrySet, Resized, RowsAdded, RowsListed, RowsSwapped};
 ghost use Rattle.stores.specs.Matrix.{counted, got, limited, listable, oneOf, onesOf, paired, ranged, rowWords, shape, shrinkable, spanned, stored};
 use crate::beneath::lists;
@@ -193,7 +194,7 @@ pub fn width(m: DenseBinaryMatrix) -> usize
 }
 
 pub fn get(ws: &[u64], m: DenseBinaryMatrix, i: usize, j: usize) -> octet::Answer
-    ensures { λ r. ⌜ outcome r ≡ got (now (ws .entry)) m i j ⌝ }
+    ensures { λ r. ⌜ octetOutcome r ≡ got (now (ws .entry)) m i j ⌝ }
 {
     let fine = pair(ws.len(), m, m.height, i, m.width, j);
     match fine {

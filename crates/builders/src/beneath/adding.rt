@@ -1,10 +1,11 @@
+// Ported from constraint_matrix.rs of raptorq 2.0.1 (Apache-2.0) and changed.
 // Ones added to a binary matrix. The crate sets them; where no two meet, as the rules of a row see to, that is the same.
 ghost use Prim.Native.Nat.{ℕ, _+_, _-_, _%_, _<_, _≤_};
 ghost use lib.ListN.{length, getD};
 ghost use Rattle.field.specs.Octet.{plus};
 ghost use Rattle.field.specs.Sum.{sum};
 ghost use Rattle.headers.specs.Tuples.{Ready};
-ghost use Rattle.builders.specs.Adding.{Added, Lies, only};
+ghost use Rattle.builders.specs.Adding.{Added, Lies, encRows, only};
 ghost use Rattle.constraints.specs.Encoding.{enc};
 ghost use Rattle.constraints.specs.Ldpc.{Crosses, adds, ldpc, turn};
 ghost use Rattle.constraints.specs.Walk.{Walks};
@@ -126,7 +127,7 @@ pub fn enc_rows(
     p1: u32,
 )
     requires { ⌜ Lies m (now ws) × (from + length (now isis) ≤ m .height) × Walks w p p1 × Ready (now tables) j w p1 × (w + p ≤ m .width) ⌝ }
-    ensures { λ _. ⌜ Added (λ r c. sum (length (now (isis .entry))) (λ k. only (from + k) (enc (now (tables .entry)) j w p p1 (getD (now (isis .entry)) k 0)) r c)) (now (ws .entry)) (now (ws .exit)) m ⌝ }
+    ensures { λ _. ⌜ Added (encRows (now (tables .entry)) (now (isis .entry)) j w p p1 from) (now (ws .entry)) (now (ws .exit)) m ⌝ }
 {
     let mut k = 0;
     while k < isis.len() {

@@ -8,18 +8,8 @@ ghost use Rattle.headers.specs.Tuples.{Bounds};
 ghost use Rattle.constraints.specs.Encoding.{Markable, visits};
 ghost use Rattle.constraints.specs.Walk.{Walks, places};
 use crate::beneath::walk;
+use field::beneath::runs;
 use headers::tuple::Tuple;
-
-fn zero(out: &mut [u8], at: usize, n: usize)
-    requires { ⌜ at + n ≤ length (now out) ⌝ }
-    ensures { λ _. ⌜ Written (λ k. 0) (now (out .entry)) (now (out .exit)) at n ⌝ }
-{
-    let mut k = 0;
-    while k < n {
-        out[at + k] = 0;
-        k += 1;
-    }
-}
 
 // Ones at the first n places of the list, in l octets that were 0.
 fn set_ones(out: &mut [u8], at: usize, l: usize, list: &[u32], n: usize)
@@ -42,7 +32,7 @@ pub fn tuple_row(out: &mut [u8], at: usize, w: u32, p: u32, p1: u32, t: Tuple)
     let mut list = [0u32; 33];
     walk::enc_indices(t, w, p, p1, &mut list);
     let l = (w + p) as usize;
-    zero(out, at, l);
+    runs::clear(out, at, l);
     let n = (t.d + t.d1) as usize;
     set_ones(out, at, l, &list, n);
 }

@@ -1,3 +1,4 @@
+// Ported from constraint_matrix.rs of raptorq 2.0.1 (Apache-2.0) and changed.
 // The HDPC rows, row after row in a lent store, filled column by column from the right: each column is alpha times the next,
 // with two ones more. A product of MT with GAMMA would take n times as long.
 ghost use mathlib.Core.Path.{_≡_};
@@ -6,14 +7,14 @@ ghost use lib.ListN.{length, getD};
 ghost use Rattle.field.specs.Octet.{plus, doubled, power};
 ghost use Rattle.field.specs.Runs.{Written};
 ghost use Rattle.field.specs.Sum.{unit};
-ghost use Rattle.constraints.specs.Grid.{Room, Column, cells};
+ghost use Rattle.constraints.specs.Grid.{GridRoom, Column, cells};
 ghost use Rattle.constraints.specs.Hdpc.{hdpc};
 use crate::beneath::unit::unit;
 use field::doubling;
 use headers::beneath::rng;
 
 fn unit_column(out: &mut [u8], at: usize, h: usize, l: usize, c: usize, one: usize)
-    requires { ⌜ Room (now out) at h l c ⌝ }
+    requires { ⌜ GridRoom (now out) at h l c ⌝ }
     ensures { λ _. ⌜ Column (λ r. unit r one) (now (out .entry)) (now (out .exit)) at h l c ⌝ }
 {
     let mut i = 0;
@@ -25,7 +26,7 @@ fn unit_column(out: &mut [u8], at: usize, h: usize, l: usize, c: usize, one: usi
 
 // The powers of alpha.
 fn alpha_column(out: &mut [u8], at: usize, h: usize, l: usize, c: usize)
-    requires { ⌜ Room (now out) at h l c ⌝ }
+    requires { ⌜ GridRoom (now out) at h l c ⌝ }
     ensures { λ _. ⌜ Column power (now (out .entry)) (now (out .exit)) at h l c ⌝ }
 {
     let mut x: u8 = 1;
@@ -39,7 +40,7 @@ fn alpha_column(out: &mut [u8], at: usize, h: usize, l: usize, c: usize)
 
 // Alpha times the column to the right, with a one more in rows a and b.
 fn next_column(out: &mut [u8], at: usize, h: usize, l: usize, c: usize, a: usize, b: usize)
-    requires { ⌜ Room (now out) at h l (c + 1) ⌝ }
+    requires { ⌜ GridRoom (now out) at h l (c + 1) ⌝ }
     ensures { λ _. ⌜ Column (λ r. plus (plus (doubled (getD (now (out .entry)) (at + r * l + c + 1) 0)) (unit r a)) (unit r b)) (now (out .entry)) (now (out .exit)) at h l c ⌝ }
 {
     let mut i = 0;

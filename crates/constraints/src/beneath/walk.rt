@@ -1,3 +1,4 @@
+// Ported from constraint_matrix.rs of raptorq 2.0.1 (Apache-2.0) and changed.
 // The places that a tuple adds up, in walk order (Enc[] of RFC 6330 section 5.3.5.3), for a checked row and a tuple within its bounds.
 ghost use mathlib.Core.Path.{_≡_};
 ghost use Prim.Native.Nat.{_+_, _<_, _≤_};

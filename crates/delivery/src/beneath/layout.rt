@@ -33,7 +33,7 @@ pub fn row(bytes: &[u8]) -> Row
     let s = word(bytes, 20);
     let h = word(bytes, 24);
     let w = word(bytes, 28);
-    Row { k, j, s, h, w }
+    Row { kp: k, j, s, h, w }
 }
 
 // V0, V1, V2 and V3 in order.

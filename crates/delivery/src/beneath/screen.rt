@@ -61,7 +61,7 @@ fn screen_row(r: Row, k: u64, t: u16) -> Screened
     if k < 1 {
         return Screened::Stopped(Stop::Refused(Refusal::BadCount));
     }
-    if k > r.k as u64 {
+    if k > r.kp as u64 {
         return Screened::Stopped(Stop::Refused(Refusal::BadCount));
     }
     if t > 1024 {
@@ -91,11 +91,11 @@ fn screen_length(len: usize, t: usize, fixed: usize) -> Screened
 }
 
 fn screen_packets(bytes: &[u8], r: Row, k: u32, t: usize) -> Screened
-    requires { ⌜ Obeys r × (1 ≤ k) × (k ≤ r .k) × (lOf r ≤ 300) × (t < 65536) ⌝ }
+    requires { ⌜ Obeys r × (1 ≤ k) × (k ≤ r .kp) × (lOf r ≤ 300) × (t < 65536) ⌝ }
     ensures { λ a. ⌜ screened a ≡ packetsScreen (now (bytes .entry)) r k t ⌝ }
 {
     let len = bytes.len();
-    let fixed = (r.s + r.h + (r.k - k)) as usize;
+    let fixed = (r.s + r.h + (r.kp - k)) as usize;
     let fine = screen_length(len, t, fixed);
     let Screened::Passed = fine else {
         return fine;

@@ -1,7 +1,7 @@
 // All equations, one after the other, and then back. The order in which they stand decides the speed, and not the answer.
 ghost use Prim.Native.Nat.{_+_};
 ghost use Rattle.linear.specs.Elimination.{Stepped, Keeps};
-ghost use Rattle.elimination.specs.Steps.{Room, Pivots, Taken, Stands, column};
+ghost use Rattle.elimination.specs.Steps.{StoresRoom, Pivots, Taken, Stands, column};
 use crate::beneath::reduce;
 use crate::beneath::rows;
 use crate::beneath::steps;
@@ -22,7 +22,7 @@ fn take_row(
     i: usize,
     r: usize,
 ) -> Progress
-    requires { ⌜ Room (i + 1) l t (now rows) (now values) × Pivots l (now pivots) ⌝ }
+    requires { ⌜ StoresRoom (i + 1) l t (now rows) (now values) × Pivots l (now pivots) ⌝ }
     requires { ⌜ Stepped l t i r (column (now pivots)) (now rows) (now values) ⌝ }
     ensures { λ p. ⌜ Taken (i + 1) l t (now (pivots .exit)) (now (rows .exit)) (now (values .exit)) p ⌝ }
     ensures { λ _. ⌜ Keeps (i + 1) l t (now (rows .entry)) (now (values .entry)) (now (rows .exit)) (now (values .exit)) ⌝ }
@@ -54,7 +54,7 @@ fn forward(
     l: usize,
     t: usize,
 ) -> Progress
-    requires { ⌜ Room m l t (now rows) (now values) × Pivots l (now pivots) ⌝ }
+    requires { ⌜ StoresRoom m l t (now rows) (now values) × Pivots l (now pivots) ⌝ }
     ensures { λ p. ⌜ Taken m l t (now (pivots .exit)) (now (rows .exit)) (now (values .exit)) p ⌝ }
     ensures { λ _. ⌜ Keeps m l t (now (rows .entry)) (now (values .entry)) (now (rows .exit)) (now (values .exit)) ⌝ }
 {
@@ -80,7 +80,7 @@ pub fn eliminate(
     l: usize,
     t: usize,
 ) -> Progress
-    requires { ⌜ Room m l t (now rows) (now values) × Pivots l (now pivots) ⌝ }
+    requires { ⌜ StoresRoom m l t (now rows) (now values) × Pivots l (now pivots) ⌝ }
     ensures { λ p. ⌜ Stands m l t (now (pivots .exit)) (now (rows .exit)) (now (values .exit)) p ⌝ }
     ensures { λ _. ⌜ Keeps m l t (now (rows .entry)) (now (values .entry)) (now (rows .exit)) (now (values .exit)) ⌝ }
 {

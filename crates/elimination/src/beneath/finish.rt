@@ -3,17 +3,17 @@ ghost use Prim.Native.Nat.{_*_, _≤_, _<_};
 ghost use lib.ListN.{length};
 ghost use Rattle.linear.specs.Rows.{OnlyBelow};
 ghost use Rattle.linear.specs.Elimination.{Gathered};
-ghost use Rattle.elimination.specs.Steps.{Room, Ready, Delivered, Due, Ended, column};
+ghost use Rattle.elimination.specs.Steps.{StoresRoom, Readable, PutOut, Due, Ended, column};
 ghost use Rattle.elimination.specs.Verdict.{Answered};
 use crate::beneath::eliminate;
 use crate::beneath::eliminate::Progress;
 use crate::beneath::rows;
 use crate::verdict::Verdict;
-use slab::beneath::symbols;
+use field::beneath::runs;
 
 // The symbols of the held rows go to their columns of `out`.
 fn gather(values: &[u8], pivots: &[u16], out: &mut [u8], l: usize, t: usize, r: usize)
-    requires { ⌜ Ready l t r (now pivots) (now values) × (l * t ≤ length (now out)) ⌝ }
+    requires { ⌜ Readable l t r (now pivots) (now values) × (l * t ≤ length (now out)) ⌝ }
     ensures { λ _. ⌜ Gathered t r (column (now (pivots .entry))) (now (values .entry)) (now (out .exit)) ⌝ }
     ensures { λ _. ⌜ OnlyBelow (l * t) (now (out .entry)) (now (out .exit)) ⌝ }
 {
@@ -26,8 +26,8 @@ fn gather(values: &[u8], pivots: &[u16], out: &mut [u8], l: usize, t: usize, r: 
 
 // As many rows are held as there are columns, or nothing goes out.
 fn deliver(values: &[u8], pivots: &[u16], out: &mut [u8], l: usize, t: usize, r: usize)
-    requires { ⌜ Ready l t r (now pivots) (now values) × (l * t ≤ length (now out)) ⌝ }
-    ensures { λ _. ⌜ Delivered l t r (now (pivots .entry)) (now (values .entry)) (now (out .entry)) (now (out .exit)) ⌝ }
+    requires { ⌜ Readable l t r (now pivots) (now values) × (l * t ≤ length (now out)) ⌝ }
+    ensures { λ _. ⌜ PutOut l t r (now (pivots .entry)) (now (values .entry)) (now (out .entry)) (now (out .exit)) ⌝ }
 {
     if r < l {
         return;
@@ -58,13 +58,13 @@ pub fn solve_stored(
     l: usize,
     t: usize,
 ) -> Verdict
-    requires { ⌜ Room m l t (now rows) (now values) × (l * t ≤ length (now out)) × (0 < t) × (l ≤ 65535) ⌝ }
+    requires { ⌜ StoresRoom m l t (now rows) (now values) × (l * t ≤ length (now out)) × (0 < t) × (l ≤ 65535) ⌝ }
     ensures { λ v. ⌜ Answered m l t (now (rows .entry)) (now (values .entry)) (now (out .entry)) (now (rows .exit)) (now (values .exit)) (now (out .exit)) v ⌝ }
 {
     let mut pivots = [0u16; 65535];
     let p = eliminate::eliminate(rows, values, &mut pivots, m, l, t);
     let v = finish(p, values, &pivots, out, l, t);
-    symbols::clear(rows, m * l);
-    symbols::clear(values, m * t);
+    runs::clear(rows, 0, m * l);
+    runs::clear(values, 0, m * t);
     v
 }

@@ -3,7 +3,7 @@
 ghost use Prim.Native.Nat.{_+_, _≤_, _<_};
 ghost use lib.ListN.{length};
 ghost use Rattle.linear.specs.Elimination.{Stepped, Reducing, Held, Keeps};
-ghost use Rattle.elimination.specs.Steps.{Room, column};
+ghost use Rattle.elimination.specs.Steps.{StoresRoom, column};
 use crate::beneath::rows;
 
 // The held rows after row q go off it.
@@ -17,7 +17,7 @@ fn reduce_row(
     r: usize,
     q: usize,
 )
-    requires { ⌜ Room m l t (now rows) (now values) × (r ≤ length (now pivots)) × (q < r) ⌝ }
+    requires { ⌜ StoresRoom m l t (now rows) (now values) × (r ≤ length (now pivots)) × (q < r) ⌝ }
     requires { ⌜ Reducing l t m r (q + 1) r (column (now pivots)) (now rows) (now values) ⌝ }
     ensures { λ _. ⌜ Reducing l t m r q r (column (now (pivots .entry))) (now (rows .exit)) (now (values .exit)) ⌝ }
     ensures { λ _. ⌜ Keeps m l t (now (rows .entry)) (now (values .entry)) (now (rows .exit)) (now (values .exit)) ⌝ }
@@ -40,7 +40,7 @@ pub fn reduce(
     t: usize,
     r: usize,
 )
-    requires { ⌜ Room m l t (now rows) (now values) × (r ≤ length (now pivots)) ⌝ }
+    requires { ⌜ StoresRoom m l t (now rows) (now values) × (r ≤ length (now pivots)) ⌝ }
     requires { ⌜ Stepped l t m r (column (now pivots)) (now rows) (now values) ⌝ }
     ensures { λ _. ⌜ Held l t m r (column (now (pivots .entry))) (now (rows .exit)) (now (values .exit)) ⌝ }
     ensures { λ _. ⌜ Keeps m l t (now (rows .entry)) (now (values .entry)) (now (rows .exit)) (now (values .exit)) ⌝ }

@@ -5,7 +5,7 @@ ghost use Prim.Native.Nat.{_+_, _≤_, _<_};
 ghost use lib.ListN.{length};
 ghost use Rattle.linear.specs.Bytes.{cell};
 ghost use Rattle.linear.specs.Elimination.{Stepped, Sifted, Keeps};
-ghost use Rattle.elimination.specs.Steps.{Room, column};
+ghost use Rattle.elimination.specs.Steps.{StoresRoom, column};
 use crate::beneath::rows;
 
 // The held rows go off row i, so that it is 0 at their pivots.
@@ -18,7 +18,7 @@ pub fn sift(
     i: usize,
     r: usize,
 )
-    requires { ⌜ Room (i + 1) l t (now rows) (now values) × (r ≤ length (now pivots)) ⌝ }
+    requires { ⌜ StoresRoom (i + 1) l t (now rows) (now values) × (r ≤ length (now pivots)) ⌝ }
     requires { ⌜ Stepped l t i r (column (now pivots)) (now rows) (now values) ⌝ }
     ensures { λ _. ⌜ Sifted l t i r r (column (now (pivots .entry))) (now (rows .exit)) (now (values .exit)) ⌝ }
     ensures { λ _. ⌜ Keeps (i + 1) l t (now (rows .entry)) (now (values .entry)) (now (rows .exit)) (now (values .exit)) ⌝ }
@@ -42,7 +42,7 @@ fn settle(
     r: usize,
     c: usize,
 )
-    requires { ⌜ Room (i + 1) l t (now rows) (now values) × (r < length (now pivots)) × (c < l) × (l ≤ 65535) ⌝ }
+    requires { ⌜ StoresRoom (i + 1) l t (now rows) (now values) × (r < length (now pivots)) × (c < l) × (l ≤ 65535) ⌝ }
     requires { ⌜ Sifted l t i r r (column (now pivots)) (now rows) (now values) × (cell l (now rows) i c ≡ 1) ⌝ }
     ensures { λ _. ⌜ Stepped l t (i + 1) (r + 1) (column (now (pivots .exit))) (now (rows .exit)) (now (values .exit)) ⌝ }
     ensures { λ _. ⌜ Keeps (i + 1) l t (now (rows .entry)) (now (values .entry)) (now (rows .exit)) (now (values .exit)) ⌝ }
@@ -66,7 +66,7 @@ pub fn hold(
     r: usize,
     c: usize,
 )
-    requires { ⌜ Room (i + 1) l t (now rows) (now values) × (r < length (now pivots)) × (c < l) × (l ≤ 65535) ⌝ }
+    requires { ⌜ StoresRoom (i + 1) l t (now rows) (now values) × (r < length (now pivots)) × (c < l) × (l ≤ 65535) ⌝ }
     requires { ⌜ Sifted l t i r r (column (now pivots)) (now rows) (now values) × (cell l (now rows) i c ≢ 0) ⌝ }
     ensures { λ _. ⌜ Stepped l t (i + 1) (r + 1) (column (now (pivots .exit))) (now (rows .exit)) (now (values .exit)) ⌝ }
     ensures { λ _. ⌜ Keeps (i + 1) l t (now (rows .entry)) (now (values .entry)) (now (rows .exit)) (now (values .exit)) ⌝ }

@@ -9,17 +9,6 @@ use constraints::beneath::walk;
 use field::beneath::runs;
 use headers::tuple::Tuple;
 
-fn clear(out: &mut [u8], n: usize)
-    requires { ⌜ n ≤ length (now out) ⌝ }
-    ensures { λ _. ⌜ Written (λ k. 0) (now (out .entry)) (now (out .exit)) 0 n ⌝ }
-{
-    let mut i = 0;
-    while i < n {
-        out[i] = 0;
-        i += 1;
-    }
-}
-
 // out + C[p]
 fn add_symbol(out: &mut [u8], t: usize, intermediates: &[u8], p: usize)
     requires { ⌜ (t ≤ length (now out)) × (p * t + t ≤ length (now intermediates)) ⌝ }
@@ -49,7 +38,7 @@ pub fn enc(out: &mut [u8], t: usize, intermediates: &[u8], tuple: Tuple, w: u32,
 {
     let mut list = [0u32; 32];
     walk::enc_indices(tuple, w, p, p1, &mut list);
-    clear(out, t);
+    runs::clear(out, 0, t);
     let n = (tuple.d + tuple.d1) as usize;
     add_symbols(out, t, intermediates, &list, n);
 }

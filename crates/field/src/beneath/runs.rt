@@ -1,9 +1,21 @@
-// The octets' arithmetic on runs of bytes, place by place: all the run time of a decoder is spent here.
+// The octets' arithmetic on runs of bytes, place by place: every sum and product of symbols is made here.
 // Products are by doubling, which compiles to vector code; a table would be built anew in the frame of each call.
 ghost use Prim.Native.Nat.{_+_, _≤_};
 ghost use lib.ListN.{length};
 ghost use Rattle.field.specs.Runs.{Written, added, fused, scaled};
 use crate::doubling;
+
+// 0 at n places, from place `at` of dst on
+pub fn clear(dst: &mut [u8], at: usize, n: usize)
+    requires { ⌜ at + n ≤ length (now dst) ⌝ }
+    ensures { λ r. ⌜ Written (λ k. 0) (now (dst .entry)) (now (dst .exit)) at n ⌝ }
+{
+    let mut i = 0;
+    while i < n {
+        dst[at + i] = 0;
+        i += 1;
+    }
+}
 
 // dst + src, from place `at` of dst on
 pub fn add(dst: &mut [u8], at: usize, src: &[u8])

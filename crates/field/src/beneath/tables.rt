@@ -1,3 +1,4 @@
+// Ported from octet.rs of raptorq 2.0.1 (Apache-2.0) and changed.
 // The tables OCT_EXP and OCT_LOG of RFC 6330, sections 5.7.3 and 5.7.4, and the one function that reads each.
 ghost use mathlib.Core.Path.{_≡_};
 ghost use Prim.Native.Nat.{_<_};

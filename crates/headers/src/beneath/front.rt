@@ -1,3 +1,4 @@
+// Ported from base.rs of raptorq 2.0.1 (Apache-2.0) and changed.
 // The payload id at the front of four bytes or more: those of an id alone, or of a packet.
 ghost use mathlib.Core.Path.{_≡_};
 ghost use Prim.Native.Nat.{_≤_};

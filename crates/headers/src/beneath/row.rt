@@ -8,10 +8,10 @@ use crate::row::Row;
 use crate::row::Sizes;
 
 // Each number in its range.
-fn in_range(k: u32, j: u32, s: u32, h: u32, w: u32) -> bool
-    ensures { λ t. ⌜ Told t (Ranges k j s h w) ⌝ }
+fn in_range(kp: u32, j: u32, s: u32, h: u32, w: u32) -> bool
+    ensures { λ t. ⌜ Told t (Ranges kp j s h w) ⌝ }
 {
-    if k >= 65536 {
+    if kp >= 65536 {
         return false;
     }
     if j >= 65536 {
@@ -26,10 +26,10 @@ fn in_range(k: u32, j: u32, s: u32, h: u32, w: u32) -> bool
     if w >= 65536 {
         return false;
     }
-    if k < 1 {
+    if kp < 1 {
         return false;
     }
-    if k > 56403 {
+    if kp > 56403 {
         return false;
     }
     if s % 2 != 1 {
@@ -52,7 +52,7 @@ pub fn obeys(r: Row) -> bool
 {
     let s = r.s;
     let w = r.w;
-    if !in_range(r.k, r.j, s, r.h, w) {
+    if !in_range(r.kp, r.j, s, r.h, w) {
         return false;
     }
     if !prime::is_prime(w) {
@@ -61,7 +61,7 @@ pub fn obeys(r: Row) -> bool
     if w <= s {
         return false;
     }
-    let l = r.k + s + r.h;
+    let l = r.kp + s + r.h;
     if l < w + 3 {
         return false;
     }
@@ -78,7 +78,7 @@ pub fn l(r: Row) -> u32
     requires { ⌜ Obeys r ⌝ }
     ensures { λ n. ⌜ n ≡ lOf r ⌝ }
 {
-    r.k + r.s + r.h
+    r.kp + r.s + r.h
 }
 
 pub fn p(r: Row) -> u32

@@ -1,3 +1,4 @@
+// Ported from base.rs of raptorq 2.0.1 (Apache-2.0) and changed.
 // The transmission information at the front of twelve bytes or more: those of the information alone, or of a delivery.
 ghost use mathlib.Core.Path.{_≡_};
 ghost use Prim.Native.Nat.{_≤_};

@@ -1,3 +1,4 @@
+// Ported from base.rs of raptorq 2.0.1 (Apache-2.0) and changed.
 // The tuple of an ISI, for a row and tables that were checked.
 ghost use mathlib.Core.Path.{_≡_};
 ghost use Prim.Native.Nat.{_<_};

@@ -1,4 +1,5 @@
-// Exact quotients (util.rs of the crate, which cuts them to 32 bits).
+// Ported from util.rs of raptorq 2.0.1 (Apache-2.0) and changed.
+// Exact quotients: the crate cuts them to 32 bits.
 ghost use mathlib.Core.Path.{_≡_};
 ghost use Prim.Native.Nat.{_<_};
 ghost use Rattle.headers.specs.Quotient.{ceil};

@@ -1,3 +1,4 @@
+// Ported from symbol_slab.rs of raptorq 2.0.1 (Apache-2.0) and changed.
 // Symbols of t bytes at given places of one lent slab. The one symbol's part is lent on for writing; a source in the same
 // slab is copied out by chunks, since one slab is not lent twice.
 ghost use Prim.Native.Nat.{_+_, _≤_, _<_};
@@ -53,17 +54,5 @@ pub fn fma(slab: &mut [u8], t: usize, to: usize, from: usize, c: u8)
         bytes::copy(&slab[first..last], &mut chunk);
         field::beneath::runs::fma(&mut slab[to..end], at, &chunk[..n], c);
         at += n;
-    }
-}
-
-// The first n bytes become 0.
-pub fn clear(slab: &mut [u8], n: usize)
-    requires { ⌜ n ≤ length (now slab) ⌝ }
-    ensures { λ _. ⌜ Written (λ k. 0) (now (slab .entry)) (now (slab .exit)) 0 n ⌝ }
-{
-    let mut i = 0;
-    while i < n {
-        slab[i] = 0;
-        i += 1;
     }
 }

@@ -1,3 +1,4 @@
+// Ported from matrix.rs of raptorq 2.0.1 (Apache-2.0) and changed.
 // Which places hold a one, listed in lent memory from its front on.
 ghost use mathlib.Core.Path.{_≡_};
 ghost use Prim.Native.Nat.{_+_, _*_, _/_, _≤_, _<_};

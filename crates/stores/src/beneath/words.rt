@@ -1,3 +1,4 @@
+// Ported from matrix.rs of raptorq 2.0.1 (Apache-2.0) and changed.
 // Rows of bits in lent words: column c of the row that begins at word `at` is bit c mod 64 of word at + c / 64.
 ghost use mathlib.Core.Path.{_≡_};
 ghost use Prim.Native.Nat.{_+_, _*_, _/_, _%_, _≤_, _<_, min};

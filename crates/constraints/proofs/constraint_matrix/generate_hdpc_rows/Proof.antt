@@ -41,7 +41,7 @@ mul-if3 : tie.Need-mul-if3
 mul-if3 c =
     let o = fine (c .before .before .before) in
     let r = c .before .before .before .before .before .before .before .args .r in
-    omega (arith, mul-le-mul {n₁ = r .h} {m₁ = r .k + r .s + r .h} {n₂ = 255} {m₂ = 65535} (o .ranges .h-high) (o .l-high))
+    omega (arith, mul-le-mul {n₁ = r .h} {m₁ = r .kp + r .s + r .h} {n₂ = 255} {m₂ = 65535} (o .ranges .h-high) (o .l-high))
 
 returns-3 : tie.Need-returns-3
 returns-3 c = record { answer = simp (obeyed (fine (c .before .before .before .before)), eq-eqb _ _ (c .before .before .before .if2 .left), lt-ltb _ _ (c .if3 .taken)); memory = refl }
@@ -49,7 +49,7 @@ returns-3 c = record { answer = simp (obeyed (fine (c .before .before .before .b
 generate-hdpc-rows-requires : tie.Need-generate-hdpc-rows-requires
 generate-hdpc-rows-requires c κs =
     let o = fine (c .before .before .before .before .before) in
-    (c .before .before .before .before .if2 .left, omega (arith, o .ranges .k-low), o .ranges .h-low, o .l-high, omega arith)
+    (c .before .before .before .before .if2 .left, omega (arith, o .ranges .kp-low), o .ranges .h-low, o .l-high, omega arith)
 
 same-length : tie.Need-same-length
 same-length c = search needs

@@ -27,7 +27,7 @@ well c =
     (told (c .before .before .check .result) (c .before .before .check .ensures) (c .enum-told .given .1))
 
 -- the tuple is that of the shifted ESI
-made : (c : tie.After-intermediate-tuple) → let a = c .before .before .before .before .before .before .before .before .before .args in c .intermediate-tuple .result ≡ tupleOn (a .tables .now) (a .r) (shifted (a .esi) (a .k) (a .r .k))
+made : (c : tie.After-intermediate-tuple) → let a = c .before .before .before .before .before .before .before .before .before .args in c .intermediate-tuple .result ≡ tupleOn (a .tables .now) (a .r) (shifted (a .esi) (a .k) (a .r .kp))
 made c =
     let a = c .before .before .before .before .before .before .before .before .before .args in
     tuple-is (a .tables .now) (a .r) (c .intermediate-tuple .ensures) (c .before .p1 .ensures) (c .before .before .isi-of .ensures)
@@ -36,7 +36,7 @@ short : (c : tie.After-intermediate-tuple) → steps (c .intermediate-tuple .res
 short c =
     let a = c .before .before .before .before .before .before .before .before .before .args in
     let h = well (c .before .before .before) in
-    subst (λ (z : Tuple). steps z ≤ 32) (sym (made c)) (walk-fits (h .rules) (a .tables .now) (h .all) (shifted (a .esi) (a .k) (a .r .k)))
+    subst (λ (z : Tuple). steps z ≤ 32) (sym (made c)) (walk-fits (h .rules) (a .tables .now) (h .all) (shifted (a .esi) (a .k) (a .r .kp)))
 
 check-requires : tie.Need-check-requires
 check-requires c κs = search needs
@@ -55,7 +55,7 @@ returns c =
     }
 
 isi-of-requires : tie.Need-isi-of-requires
-isi-of-requires c κs = let h = well c in (h .sent, omega (arith, h .k-high), h .rules .ranges .k-16)
+isi-of-requires c κs = let h = well c in (h .esi-24, omega (arith, h .k-high), h .rules .ranges .kp-16)
 
 p1-requires : tie.Need-p1-requires
 p1-requires c κs = well (c .before) .rules
@@ -73,7 +73,7 @@ returns-2 : tie.Need-returns-2
 returns-2 c =
     let a = c .before .before .before .before .before .before .before .before .before .before .before .args in
     let e = made (c .before .before) in
-    let l : 32 < steps (tupleOn (a .tables .now) (a .r) (shifted (a .esi) (a .k) (a .r .k))) = subst (λ (z : Tuple). 32 < steps z) e (c .if1 .taken) in
+    let l : 32 < steps (tupleOn (a .tables .now) (a .r) (shifted (a .esi) (a .k) (a .r .kp))) = subst (λ (z : Tuple). 32 < steps z) e (c .if1 .taken) in
     record { answer = sym (went-on (c .before .before .before .before .before .before .before .check .result) (c .before .before .before .before .before .before .before .check .ensures) _ (c .before .before .before .before .before .enum-told .given .1) ∙ simp (lt-ltb _ _ l)); memory = refl }
 
 p-requires : tie.Need-p-requires
@@ -87,7 +87,7 @@ enc-requires c κs =
     let o = h .rules in
     rw (c .p .ensures, c .before .before .before .before .before .p1 .ensures) (
       walks o,
-      subst (Bounds (a .r .w) (p1Of (a .r))) (sym (made m)) (bounded (ready o (h .all)) (shifted (a .esi) (a .k) (a .r .k))),
+      subst (Bounds (a .r .w) (p1Of (a .r))) (sym (made m)) (bounded (ready o (h .all)) (shifted (a .esi) (a .k) (a .r .kp))),
       short m,
       h .fits,
       omega (arith, h .enough, ap (λ (n : ℕ). n * a .t) (l-is o)),
@@ -101,10 +101,10 @@ returns-3 c =
     let h = well (c .before .before .before .before .before .before .before .before .before .before) in
     let m = c .before .before .before .before .before .before .before in
     let a = c .before .before .before .before .before .before .before .before .before .before .before .before .before .before .before .before .args in
-    let l : steps (tupleOn (a .tables .now) (a .r) (shifted (a .esi) (a .k) (a .r .k))) ≤ 32 = walk-fits (h .rules) (a .tables .now) (h .all) (shifted (a .esi) (a .k) (a .r .k)) in
+    let l : steps (tupleOn (a .tables .now) (a .r) (shifted (a .esi) (a .k) (a .r .kp))) ≤ 32 = walk-fits (h .rules) (a .tables .now) (h .all) (shifted (a .esi) (a .k) (a .r .kp)) in
     record {
       answer = sym (went-on (c .before .before .before .before .before .before .before .before .before .before .before .before .check .result) (c .before .before .before .before .before .before .before .before .before .before .before .before .check .ensures) _ (c .before .before .before .before .before .before .before .before .before .before .enum-told .given .1) ∙ simp (le-ltb _ _ l));
-      memory = encoded-walk (h .rules) (a .tables .now) (shifted (a .esi) (a .k) (a .r .k)) (a .t) (a .intermediates .now) (made m) (c .before .before .before .p .ensures) (c .before .before .before .before .before .before .before .before .p1 .ensures) (c .before .before .enc .ensures);
+      memory = encoded-walk (h .rules) (a .tables .now) (shifted (a .esi) (a .k) (a .r .kp)) (a .t) (a .intermediates .now) (made m) (c .before .before .before .p .ensures) (c .before .before .before .before .before .before .before .before .p1 .ensures) (c .before .before .enc .ensures);
     }
 
 pub encode-spec : {M : Type 1} → statement M

@@ -5,7 +5,7 @@ use borrow.Author.Needs.{needs}
 use lib.ListN.{length}
 use denote.Ref.{now}
 use Rattle.field.specs.Answer.{given, refused}
-use Rattle.solver.specs.Display.{arrived, rebuilt, outcome}
+use Rattle.solver.specs.Display.{arrived, rebuilt, placeOutcome}
 use Rattle.exports.proofs.Solving.{called-place}
 use Rattle.exports.proofs.blocks.spoonripple_display.Statement.{statement}
 use Rattle.exports.proofs.blocks.spoonripple_display.Tie as tie
@@ -47,7 +47,7 @@ returns : tie.Need-returns
 returns c =
     let at = c .before .before .before .before .before .before .before .before in
     let a = at .before .before .before .before .before .before .args in
-    called-place (a .count) (a .t) (now (a .esis)) (length (now (a .arrivals))) (length (now (a .rebuilt))) (a .i) _ (given (arrived _)) (at .before .measured .ensures) (sym (ap outcome (c .before .before .before .before .before .before .from .given .1)) ∙ at .locate .ensures) (c .before .before .hand .ensures)
+    called-place (a .count) (a .t) (now (a .esis)) (length (now (a .arrivals))) (length (now (a .rebuilt))) (a .i) _ (given (arrived _)) (at .before .measured .ensures) (sym (ap placeOutcome (c .before .before .before .before .before .before .from .given .1)) ∙ at .locate .ensures) (c .before .before .hand .ensures)
 
 same-length-2 : tie.Need-same-length-2
 same-length-2 c = search needs
@@ -56,13 +56,13 @@ returns-2 : tie.Need-returns-2
 returns-2 c =
     let at = c .before .before .before .before .before .before .before .before in
     let a = at .before .before .before .before .before .before .args in
-    called-place (a .count) (a .t) (now (a .esis)) (length (now (a .arrivals))) (length (now (a .rebuilt))) (a .i) _ (given (rebuilt _)) (at .before .measured .ensures) (sym (ap outcome (c .before .before .before .before .before .before .from2 .given .1)) ∙ at .locate .ensures) (c .before .before .hand2 .ensures)
+    called-place (a .count) (a .t) (now (a .esis)) (length (now (a .arrivals))) (length (now (a .rebuilt))) (a .i) _ (given (rebuilt _)) (at .before .measured .ensures) (sym (ap placeOutcome (c .before .before .before .before .before .before .from2 .given .1)) ∙ at .locate .ensures) (c .before .before .hand2 .ensures)
 
 returns-3 : tie.Need-returns-3
 returns-3 c =
     let at = c .before .before .before .before in
     let a = at .before .before .before .before .before .before .args in
-    called-place (a .count) (a .t) (now (a .esis)) (length (now (a .arrivals))) (length (now (a .rebuilt))) (a .i) _ (refused _) (at .before .measured .ensures) (sym (ap outcome (c .before .before .why .given .1)) ∙ at .locate .ensures) (record { answer = c .number .ensures; memory = refl })
+    called-place (a .count) (a .t) (now (a .esis)) (length (now (a .arrivals))) (length (now (a .rebuilt))) (a .i) _ (refused _) (at .before .measured .ensures) (sym (ap placeOutcome (c .before .before .why .given .1)) ∙ at .locate .ensures) (record { answer = c .number .ensures; memory = refl })
 
 pub spoonripple-display-spec : {M : Type 1} → statement M
 spoonripple-display-spec =

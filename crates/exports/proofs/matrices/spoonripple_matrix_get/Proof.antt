@@ -5,7 +5,7 @@ use borrow.Author.Needs.{needs}
 use Rattle.exports.proofs.Calls.{called-as, called-fit, called-unfit, called-handed, called-late}
 use Rattle.exports.specs.Call.{listed, one}
 use Rattle.stores.specs.Matrix.{limited}
-use Rattle.field.specs.Answer.{outcome}
+use Rattle.field.specs.Answer.{octetOutcome}
 use Rattle.exports.proofs.matrices.spoonripple_matrix_get.Statement.{statement}
 use Rattle.exports.proofs.matrices.spoonripple_matrix_get.Tie as tie
 
@@ -57,7 +57,7 @@ returns-2 c =
     let f = first .before .before .fits2 in
     let a = first .before .before .before .before .before .args in
     called-fit (f .result) (f .ensures) _ (first .enum-told .given .1)
-    (called-as (listed one) (sym (ap outcome (found .x .given .1)) ∙ found .before .before .get .ensures)
+    (called-as (listed one) (sym (ap octetOutcome (found .x .given .1)) ∙ found .before .before .get .ensures)
     (called-handed (limited (a .height) (a .width)) _ 1 (f .result) (f .ensures) (first .enum-told .given .1) (c .before .before .hand .ensures)))
 
 returns-3 : tie.Need-returns-3
@@ -66,7 +66,7 @@ returns-3 c =
     let first = found .before .before .before in
     let f = first .before .before .fits2 in
     called-fit (f .result) (f .ensures) _ (first .enum-told .given .1)
-    (called-late one (sym (ap outcome (found .why .given .1)) ∙ found .before .before .get .ensures) (c .number .ensures) refl)
+    (called-late one (sym (ap octetOutcome (found .why .given .1)) ∙ found .before .before .get .ensures) (c .number .ensures) refl)
 
 pub spoonripple-matrix-get-spec : {M : Type 1} → statement M
 spoonripple-matrix-get-spec =

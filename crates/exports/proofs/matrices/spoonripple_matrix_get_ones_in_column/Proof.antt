@@ -6,7 +6,7 @@ use lib.ListN.{length}
 use denote.Ref.{now}
 use borrow.Author.Needs.{needs}
 use Rattle.exports.proofs.Calls.{called-handed, listing-fit, listing-unfit, listing-given, listing-refused}
-use Rattle.stores.specs.Counting.{ones}
+use Rattle.field.specs.Ones.{ones}
 use Rattle.stores.specs.Matrix.{counted, entry, limited, listable, shape}
 use Rattle.exports.proofs.matrices.spoonripple_matrix_get_ones_in_column.Statement.{statement}
 use Rattle.exports.proofs.matrices.spoonripple_matrix_get_ones_in_column.Tie as tie

@@ -6,7 +6,7 @@ use lib.ListN.{length}
 use denote.Ref.{now}
 use borrow.Author.Needs.{needs}
 use Rattle.exports.proofs.Calls.{called-handed, listing-fit, listing-unfit, listing-given, listing-refused}
-use Rattle.stores.specs.Counting.{ones}
+use Rattle.field.specs.Ones.{ones}
 use Rattle.stores.specs.Matrix.{counted, entry, limited, listable, shape}
 use Rattle.exports.proofs.matrices.spoonripple_matrix_query_non_zero_columns.Statement.{statement}
 use Rattle.exports.proofs.matrices.spoonripple_matrix_query_non_zero_columns.Tie as tie

@@ -4,7 +4,7 @@ use mathlib.Core.Path.{sym, ap, _∙_}
 use borrow.Author.Needs.{needs}
 use Rattle.exports.proofs.Calls.{did-as}
 use Rattle.exports.specs.Call.{code}
-use Rattle.stores.specs.Matrix.{made}
+use Rattle.stores.specs.Matrix.{matrixOutcome}
 use Rattle.stores.specs.declared.matrix.Made.{Made}
 use Rattle.exports.proofs.matrices.spoonripple_matrix_resize.Statement.{statement}
 use Rattle.exports.proofs.matrices.spoonripple_matrix_resize.Tie as tie
@@ -27,7 +27,7 @@ same-length c = search needs
 returns : tie.Need-returns
 returns c =
     let w = c .before .before .before .before .resize in
-    did-as (w .ensures .0) (w .ensures .1) (sym (ap (λ (m : Made). code (made m)) (c .enum-told .given .1)))
+    did-as (w .ensures .0) (w .ensures .1) (sym (ap (λ (m : Made). code (matrixOutcome m)) (c .enum-told .given .1)))
 
 same-length-2 : tie.Need-same-length-2
 same-length-2 c = search needs
@@ -36,7 +36,7 @@ returns-2 : tie.Need-returns-2
 returns-2 c =
     let found = c .before .before in
     let w = found .before .before .before .before .resize in
-    did-as (w .ensures .0) (w .ensures .1) (c .number .ensures ∙ sym (ap (λ (m : Made). code (made m)) (found .why .given .1)))
+    did-as (w .ensures .0) (w .ensures .1) (c .number .ensures ∙ sym (ap (λ (m : Made). code (matrixOutcome m)) (found .why .given .1)))
 
 pub spoonripple-matrix-resize-spec : {M : Type 1} → statement M
 spoonripple-matrix-resize-spec =

@@ -4,7 +4,7 @@ use mathlib.Core.Path.{refl, sym, ap, _∙_}
 use borrow.Author.Needs.{needs}
 use Rattle.exports.proofs.Calls.{called-given, called-refused}
 use Rattle.exports.specs.Call.{one}
-use Rattle.field.specs.Answer.{outcome}
+use Rattle.field.specs.Answer.{octetOutcome}
 use Rattle.exports.proofs.octets.spoonripple_octet_alpha.Statement.{statement}
 use Rattle.exports.proofs.octets.spoonripple_octet_alpha.Tie as tie
 
@@ -29,12 +29,12 @@ same-length c = search needs
 returns : tie.Need-returns
 returns c =
     let found = c .before .before .before .before .before in
-    called-given one (sym (ap outcome (found .x .given .1)) ∙ found .before .before .alpha .ensures) (c .before .before .hand-one .ensures)
+    called-given one (sym (ap octetOutcome (found .x .given .1)) ∙ found .before .before .alpha .ensures) (c .before .before .hand-one .ensures)
 
 returns-2 : tie.Need-returns-2
 returns-2 c =
     let found = c .before .before in
-    called-refused one (sym (ap outcome (found .why .given .1)) ∙ found .before .before .alpha .ensures) (c .number .ensures) refl
+    called-refused one (sym (ap octetOutcome (found .why .given .1)) ∙ found .before .before .alpha .ensures) (c .number .ensures) refl
 
 pub spoonripple-octet-alpha-spec : {M : Type 1} → statement M
 spoonripple-octet-alpha-spec =

@@ -4,7 +4,7 @@ use mathlib.Core.Path.{refl, sym, ap, _∙_}
 use borrow.Author.Needs.{needs}
 use Rattle.exports.proofs.Calls.{called-first, called-late, called-short, called-roomed}
 use Rattle.exports.specs.Call.{one}
-use Rattle.field.specs.Answer.{outcome}
+use Rattle.field.specs.Answer.{octetOutcome}
 use Rattle.exports.proofs.octets.spoonripple_octet_div.Statement.{statement}
 use Rattle.exports.proofs.octets.spoonripple_octet_div.Tie as tie
 
@@ -32,13 +32,13 @@ same-length c = search needs
 returns-2 : tie.Need-returns-2
 returns-2 c =
     let found = c .before .before .before .before .before in
-    called-first one 1 (sym (ap outcome (found .x .given .1)) ∙ found .before .before .div .ensures) (c .before .before .hand-one .ensures)
+    called-first one 1 (sym (ap octetOutcome (found .x .given .1)) ∙ found .before .before .div .ensures) (c .before .before .hand-one .ensures)
 
 returns-3 : tie.Need-returns-3
 returns-3 c =
     let found = c .before .before in
     called-roomed _ 1 (found .before .before .before .if1 .left)
-    (called-late one (sym (ap outcome (found .why .given .1)) ∙ found .before .before .div .ensures) (c .number .ensures) refl)
+    (called-late one (sym (ap octetOutcome (found .why .given .1)) ∙ found .before .before .div .ensures) (c .number .ensures) refl)
 
 pub spoonripple-octet-div-spec : {M : Type 1} → statement M
 spoonripple-octet-div-spec =

@@ -4,7 +4,7 @@ use mathlib.Core.Path.{refl, sym, ap, _∙_}
 use borrow.Author.Needs.{needs}
 use Rattle.exports.proofs.Calls.{called-given, called-refused}
 use Rattle.exports.specs.Call.{one}
-use Rattle.headers.specs.Shift.{outcome}
+use Rattle.headers.specs.Shift.{isiOutcome}
 use Rattle.exports.proofs.tuples.spoonripple_isi.Statement.{statement}
 use Rattle.exports.proofs.tuples.spoonripple_isi.Tie as tie
 
@@ -38,12 +38,12 @@ same-length c = search needs
 returns : tie.Need-returns
 returns c =
     let found = c .before .before .before .before .before .before .before in
-    called-given one (sym (ap outcome (found .x .given .1)) ∙ found .before .before .isi-of .ensures) (rw (c .before .before .before .before .before .number .ensures) at (c .before .before .hand .ensures))
+    called-given one (sym (ap isiOutcome (found .x .given .1)) ∙ found .before .before .isi-of .ensures) (rw (c .before .before .before .before .before .number .ensures) at (c .before .before .hand .ensures))
 
 returns-2 : tie.Need-returns-2
 returns-2 c =
     let found = c .before .before in
-    called-refused one (sym (ap outcome (found .why .given .1)) ∙ found .before .before .isi-of .ensures) (c .number2 .ensures) refl
+    called-refused one (sym (ap isiOutcome (found .why .given .1)) ∙ found .before .before .isi-of .ensures) (c .number2 .ensures) refl
 
 pub spoonripple-isi-spec : {M : Type 1} → statement M
 spoonripple-isi-spec =

@@ -4,7 +4,7 @@ use mathlib.Core.Path.{refl, sym, ap, _∙_}
 use borrow.Author.Needs.{needs}
 use Rattle.exports.proofs.Calls.{called-given, called-refused}
 use Rattle.exports.specs.Call.{one}
-use Rattle.headers.specs.Number.{outcome}
+use Rattle.headers.specs.Number.{numberOutcome}
 use Rattle.exports.proofs.tuples.spoonripple_rand.Statement.{statement}
 use Rattle.exports.proofs.tuples.spoonripple_rand.Tie as tie
 
@@ -35,12 +35,12 @@ same-length c = search needs
 returns : tie.Need-returns
 returns c =
     let found = c .before .before .before .before .before .before in
-    called-given one (sym (ap outcome (found .x .given .1)) ∙ found .before .before .rand .ensures) (c .before .before .hand .ensures)
+    called-given one (sym (ap numberOutcome (found .x .given .1)) ∙ found .before .before .rand .ensures) (c .before .before .hand .ensures)
 
 returns-2 : tie.Need-returns-2
 returns-2 c =
     let found = c .before .before in
-    called-refused one (sym (ap outcome (found .why .given .1)) ∙ found .before .before .rand .ensures) (c .number .ensures) refl
+    called-refused one (sym (ap numberOutcome (found .why .given .1)) ∙ found .before .before .rand .ensures) (c .number .ensures) refl
 
 pub spoonripple-rand-spec : {M : Type 1} → statement M
 spoonripple-rand-spec =

@@ -4,7 +4,7 @@ use mathlib.Core.Path.{refl, sym, ap, _∙_}
 use borrow.Author.Needs.{needs}
 use Rattle.exports.proofs.Calls.{called-given, called-refused}
 use Rattle.exports.specs.Numbers.{sizeNumbers}
-use Rattle.headers.specs.Row.{outcome}
+use Rattle.headers.specs.Row.{sizesOutcome}
 use Rattle.exports.proofs.tuples.spoonripple_row_check.Statement.{statement}
 use Rattle.exports.proofs.tuples.spoonripple_row_check.Tie as tie
 
@@ -44,12 +44,12 @@ same-length c = search needs
 returns : tie.Need-returns
 returns c =
     let found = c .before .before .before .before .before .before .before .before .before .before in
-    called-given sizeNumbers (sym (ap outcome (found .z .given .1)) ∙ found .before .before .check .ensures) (c .before .before .hand .ensures)
+    called-given sizeNumbers (sym (ap sizesOutcome (found .z .given .1)) ∙ found .before .before .check .ensures) (c .before .before .hand .ensures)
 
 returns-2 : tie.Need-returns-2
 returns-2 c =
     let found = c .before .before in
-    called-refused sizeNumbers (sym (ap outcome (found .why .given .1)) ∙ found .before .before .check .ensures) (c .number .ensures) refl
+    called-refused sizeNumbers (sym (ap sizesOutcome (found .why .given .1)) ∙ found .before .before .check .ensures) (c .number .ensures) refl
 
 pub spoonripple-row-check-spec : {M : Type 1} → statement M
 spoonripple-row-check-spec =

@@ -4,7 +4,7 @@ use mathlib.Core.Path.{refl, sym, ap, _∙_}
 use borrow.Author.Needs.{needs}
 use Rattle.exports.proofs.Calls.{called-given, called-refused}
 use Rattle.exports.specs.Numbers.{tupleNumbers}
-use Rattle.headers.specs.Tuples.{outcome}
+use Rattle.headers.specs.Tuples.{tupleOutcome}
 use Rattle.exports.proofs.tuples.spoonripple_tuple.Statement.{statement}
 use Rattle.exports.proofs.tuples.spoonripple_tuple.Tie as tie
 
@@ -54,13 +54,13 @@ returns : tie.Need-returns
 returns c =
     let found = c .before .before .before .before .before .before .before .before .before .before .before .before in
     rw (← found .before .before .before .row-number .ensures)
-    (called-given tupleNumbers (sym (ap outcome (found .t .given .1)) ∙ found .before .before .intermediate-tuple .ensures) (c .before .before .hand .ensures))
+    (called-given tupleNumbers (sym (ap tupleOutcome (found .t .given .1)) ∙ found .before .before .intermediate-tuple .ensures) (c .before .before .hand .ensures))
 
 returns-2 : tie.Need-returns-2
 returns-2 c =
     let found = c .before .before in
     rw (← found .before .before .before .row-number .ensures)
-    (called-refused tupleNumbers (sym (ap outcome (found .why .given .1)) ∙ found .before .before .intermediate-tuple .ensures) (c .number .ensures) refl)
+    (called-refused tupleNumbers (sym (ap tupleOutcome (found .why .given .1)) ∙ found .before .before .intermediate-tuple .ensures) (c .number .ensures) refl)
 
 pub spoonripple-tuple-spec : {M : Type 1} → statement M
 spoonripple-tuple-spec =

@@ -4,7 +4,7 @@ use mathlib.Core.Path.{ap}
 use mathlib.Core.List.{_++_}
 use Prim.Native.Nat.{_+_}
 use native.Mathlib.Omega.{arith}
-use Rattle.headers.specs.Headers.{checked}
+use Rattle.headers.specs.Headers.{infoChecked}
 use Rattle.header_text.specs.Text.{infoLines, idLines, verdictLine}
 use Rattle.header_text.proofs.Lines.{lined-is, lined-append, lined-most}
 use borrow.Author.Needs.{needs}
@@ -30,8 +30,8 @@ returns : tie.Need-returns
 returns c =
     let start = c .before .before .before .before .before .before .before .before .before .before .before .before .before .before .args in
     lined-most
-    (lined-append (infoLines (start .info)) (idLines (start .id) ++ verdictLine (checked (start .info))) (c .before .before .before .before .before .before .before .before .before .before .before .info-lines .ensures)
-    (lined-append (idLines (start .id)) (verdictLine (checked (start .info))) (c .before .before .before .before .before .before .before .id-lines .ensures)
+    (lined-append (infoLines (start .info)) (idLines (start .id) ++ verdictLine (infoChecked (start .info))) (c .before .before .before .before .before .before .before .before .before .before .before .info-lines .ensures)
+    (lined-append (idLines (start .id)) (verdictLine (infoChecked (start .info))) (c .before .before .before .before .before .before .before .id-lines .ensures)
     (lined-is (c .before .before .verdict-line .ensures) (ap verdictLine (c .before .before .before .before .check .ensures))))) (omega arith)
 
 pub all-lines-spec : {M : Type 1} → statement M

@@ -32,7 +32,7 @@ returns-4 : tie.Need-returns-4
 returns-4 c = simp (obeyed (fine (c .before .before .before .before .before)), lt-leb _ _ (c .before .before .before .if2 .left), le-leb _ _ (c .before .before .if3 .left), lt-leb _ _ (c .if4 .taken))
 
 isi-of-requires : tie.Need-isi-of-requires
-isi-of-requires c κs = (search needs, search needs, fine (c .before .before .before .before .before) .ranges .k-16)
+isi-of-requires c κs = (search needs, search needs, fine (c .before .before .before .before .before) .ranges .kp-16)
 
 returns-5 : tie.Need-returns-5
 returns-5 c =

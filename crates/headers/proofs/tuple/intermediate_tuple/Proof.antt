@@ -4,7 +4,7 @@ use mathlib.Core.Path.{_≡_, ap, sym, subst, _∙_}
 use borrow.Author.Tests.{eq-eqb, ne-eqb}
 use borrow.Author.Needs.{needs}
 use Rattle.field.specs.Answer.{given}
-use Rattle.headers.specs.Row.{Obeys, outcome, sizesOf}
+use Rattle.headers.specs.Row.{Obeys, sizesOutcome, sizesOf}
 use Rattle.headers.specs.Tuples.{Ready, tupleOf}
 use Rattle.headers.specs.declared.row.Sizes.{Sizes}
 use Rattle.headers.proofs.Accepted.{obeyed, broken, accepted, rejected, ready}
@@ -23,11 +23,11 @@ enum-told c = search needs
 returns : tie.Need-returns
 returns c =
     let start = c .before .before .before .before in
-    simp (broken (rejected (start .args .r) _ (sym (ap outcome (c .enum-told .given .1)) ∙ c .before .before .check .ensures) .1))
+    simp (broken (rejected (start .args .r) _ (sym (ap sizesOutcome (c .enum-told .given .1)) ∙ c .before .before .check .ensures) .1))
 
 -- past the check the row obeys its rules, and the sizes are its own
 fine : (c : tie.After-known-told) → let r = c .before .before .before .before .before .args .r in (Obeys r) × (c .before .z .given .0 .0 ≡ sizesOf r)
-fine c = accepted _ _ (sym (ap outcome (c .before .z .given .1)) ∙ c .before .before .before .check .ensures)
+fine c = accepted _ _ (sym (ap sizesOutcome (c .before .z .given .1)) ∙ c .before .before .before .check .ensures)
 
 returns-2 : tie.Need-returns-2
 returns-2 c = simp (obeyed (fine (c .before) .0), ne-eqb _ _ (c .if1 .taken))

@@ -8,7 +8,7 @@ use borrow.Author.Needs.{needs}
 use lib.ListN.{length, take, drop}
 use denote.Ref.{now}
 use Rattle.solver.proofs.Displays.{arrived-in, rebuilt-in}
-use Rattle.solver.specs.Display.{outcome, shown}
+use Rattle.solver.specs.Display.{placeOutcome, shown}
 use Rattle.solver.proofs.display.display.Statement.{statement}
 use Rattle.solver.proofs.display.display.Tie as tie
 
@@ -17,13 +17,13 @@ in-arrivals : (c : tie.After-known-told) → let a = c .before .before .before .
 in-arrivals c =
     let a = c .before .before .before .before .before .before .before .args in
     arrived-in (a .k) (a .t) (now (a .esis)) (length (now (a .arrivals))) (length (now (a .rebuilt))) (a .i) _
-    (sym (c .before .before .before .locate .ensures) ∙ ap outcome (c .before .found .given .1))
+    (sym (c .before .before .before .locate .ensures) ∙ ap placeOutcome (c .before .found .given .1))
 
 in-rebuilt : (c : tie.After-known-told2) → let a = c .before .before .before .before .before .before .before .args in c .before .found2 .given .0 .0 + a .t ≤ length (now (a .rebuilt))
 in-rebuilt c =
     let a = c .before .before .before .before .before .before .before .args in
     rebuilt-in (a .k) (a .t) (now (a .esis)) (length (now (a .arrivals))) (length (now (a .rebuilt))) (a .i) _
-    (sym (c .before .before .before .locate .ensures) ∙ ap outcome (c .before .found2 .given .1))
+    (sym (c .before .before .before .locate .ensures) ∙ ap placeOutcome (c .before .found2 .given .1))
 
 locate-requires : tie.Need-locate-requires
 locate-requires c κs = search needs
@@ -74,18 +74,18 @@ returns : tie.Need-returns
 returns c =
     let a = c .before .before .before .before .before .before .before .before .args in
     ap (λ (n : ℕ). take n (drop (c .before .before .found .given .0 .0) (now (a .arrivals)))) (add-sub-cancel-left (c .before .before .found .given .0 .0) (a .t))
-    ∙ ap (λ o. shown (a .t) o (now (a .arrivals)) (now (a .rebuilt))) (sym (ap outcome (c .before .before .found .given .1)) ∙ c .before .before .before .before .locate .ensures)
+    ∙ ap (λ o. shown (a .t) o (now (a .arrivals)) (now (a .rebuilt))) (sym (ap placeOutcome (c .before .before .found .given .1)) ∙ c .before .before .before .before .locate .ensures)
 
 returns-2 : tie.Need-returns-2
 returns-2 c =
     let a = c .before .before .before .before .before .before .before .before .args in
     ap (λ (n : ℕ). take n (drop (c .before .before .found2 .given .0 .0) (now (a .rebuilt)))) (add-sub-cancel-left (c .before .before .found2 .given .0 .0) (a .t))
-    ∙ ap (λ o. shown (a .t) o (now (a .arrivals)) (now (a .rebuilt))) (sym (ap outcome (c .before .before .found2 .given .1)) ∙ c .before .before .before .before .locate .ensures)
+    ∙ ap (λ o. shown (a .t) o (now (a .arrivals)) (now (a .rebuilt))) (sym (ap placeOutcome (c .before .before .found2 .given .1)) ∙ c .before .before .before .before .locate .ensures)
 
 returns-3 : tie.Need-returns-3
 returns-3 c =
     let a = c .before .before .before .before .before .before .before .args in
-    ap (λ o. shown (a .t) o (now (a .arrivals)) (now (a .rebuilt))) (sym (ap outcome (c .before .enum-told .given .1)) ∙ c .before .before .before .locate .ensures)
+    ap (λ o. shown (a .t) o (now (a .arrivals)) (now (a .rebuilt))) (sym (ap placeOutcome (c .before .enum-told .given .1)) ∙ c .before .before .before .locate .ensures)
 
 pub display-spec : {M : Type 1} → statement M
 display-spec =

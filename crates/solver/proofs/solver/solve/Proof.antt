@@ -1,11 +1,10 @@
 -- `solver::solver::solve` meets its contract: the refusals first, then the answer.
 -- Assumes nothing.
 use mathlib.Core.Path.{refl, sym, ap, _∙_}
-use lib.ListN.{length}
 use denote.Ref.{now}
 use Rattle.field.specs.Answer.{done}
 use Rattle.field.proofs.Refusals.{told}
-use Rattle.solver.proofs.Admitted.{admits, small}
+use Rattle.solver.proofs.Admitted.{admits}
 use borrow.Author.Needs.{needs}
 use Rattle.solver.proofs.solver.solve.Statement.{statement}
 use Rattle.solver.proofs.solver.solve.Tie as tie
@@ -21,11 +20,10 @@ enum-told c = search needs
 
 run-requires : tie.Need-run-requires
 run-requires c κs =
-    let a = c .before .before .before .before .before .before .before .before .before .before .before .before .before .args in
-    let k = admits (a .r) (length (now (a .tables))) (a .k) (a .t) (length (now (a .esis))) (c .before .before .before .before .before .before .any-large .result) (length (now (a .symbols))) (length (now (a .rows))) (length (now (a .values))) (length (now (a .out)))
-    (told (c .before .before .before .before .before .may .result) (c .before .before .before .before .before .may .ensures) (c .before .before .before .enum-told .given .1))
-    in
-    (k .rules, k .whole, k .k-high, k .few, small (now (a .esis)) (sym (c .before .before .before .before .before .before .any-large .ensures) ∙ k .sent), k .t-low, k .all, k .room-rows, k .room-values, k .room-out)
+    let s = c .before .before .before .before .before .before .before .before .before .before .before .before .before .args in
+    let b = c .before .before .before .before .before in
+    admits (s .r) (now (s .tables)) (s .k) (s .t) (now (s .esis)) (now (s .symbols)) (now (s .rows)) (now (s .values)) (now (s .out))
+    (rw (b .before .any-large .ensures) at (told (b .may .result) (b .may .ensures) (c .before .before .before .enum-told .given .1)))
 
 enum-known-fine : tie.Need-enum-known-fine
 enum-known-fine c = search needs

@@ -17,8 +17,8 @@ add-l c = search needs
 cast-l : tie.Need-cast-l
 cast-l c = search needs
 
-zero-requires : tie.Need-zero-requires
-zero-requires c κs = search needs
+clear-requires : tie.Need-clear-requires
+clear-requires c κs = search needs
 
 add-n : tie.Need-add-n
 add-n c = search needs
@@ -34,7 +34,7 @@ set-ones-requires c κs =
     let s = c .before .before .before .before .before .before .before .before .before .before .before in
     let a = s .args in
     markable (a .w) (a .p) (a .p1) (a .t) (s .pre .0) (s .pre .1) (c .before .before .before .before .before .before .before .before .enc-indices .ensures)
-    (c .before .before .before .before .before .zero .ensures) (s .pre .2) (search needs)
+    (c .before .before .before .before .before .clear .ensures) (s .pre .2) (search needs)
 
 same-length : tie.Need-same-length
 same-length c = search needs
@@ -45,7 +45,7 @@ returns c =
     let a = s .args in
     marked (a .w) (a .p) (a .p1) (a .t) (s .pre .0) (s .pre .1)
     (c .before .before .before .before .before .before .before .before .before .before .before .enc-indices .ensures)
-    (c .before .before .before .before .before .before .before .before .zero .ensures) (s .pre .2) (c .before .before .set-ones .ensures)
+    (c .before .before .before .before .before .before .before .before .clear .ensures) (s .pre .2) (c .before .before .set-ones .ensures)
 
 pub tuple-row-spec : {M : Type 1} → statement M
 tuple-row-spec =
@@ -55,7 +55,7 @@ tuple-row-spec =
     enc-indices-requires
     add-l
     cast-l
-    zero-requires
+    clear-requires
     add-n
     cast-n
     slice-aggregate-set-ones

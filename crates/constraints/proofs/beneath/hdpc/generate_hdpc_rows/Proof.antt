@@ -5,7 +5,7 @@ use mathlib.Core.Path.{sym, ap₂}
 use Prim.Native.Nat.{ℕ, _+_, _-_, _%_, _<_, _≤_}
 use native.Mathlib.Omega.{arith}
 use borrow.Author.Needs.{needs}
-use Rattle.constraints.specs.Grid.{Filled}
+use Rattle.constraints.specs.Grid.{FilledFrom}
 use Rattle.constraints.specs.Hdpc.{hdpc, first, second}
 use Rattle.constraints.proofs.Grid.{filled-more, filled-self, filled-trans, filled-all}
 use Rattle.constraints.proofs.Product.{hdpc-unit, hdpc-last, next-is}
@@ -13,13 +13,13 @@ use Rattle.constraints.proofs.beneath.hdpc.generate_hdpc_rows.Statement
 use Rattle.constraints.proofs.beneath.hdpc.generate_hdpc_rows.Tie as tie
 
 abbrev Inv-loop : tie.InvT-loop
-Inv-loop tables out₀ at n h l c₀ out c = (n ≤ c) × (c ≤ n + h) × Filled (hdpc tables n h) out₀ out at h (n + h) c
+Inv-loop tables out₀ at n h l c₀ out c = (n ≤ c) × (c ≤ n + h) × FilledFrom (hdpc tables n h) out₀ out at h (n + h) c
 
 abbrev μ-loop : tie.MeasureT-loop
 μ-loop tables out₀ at n h l c₀ out c = c
 
 abbrev Inv-loop2 : tie.InvT-loop2
-Inv-loop2 tables out₀ at n h l c₀ out c = (c < n) × Filled (hdpc tables n h) out₀ out at h (n + h) c
+Inv-loop2 tables out₀ at n h l c₀ out c = (c < n) × FilledFrom (hdpc tables n h) out₀ out at h (n + h) c
 
 abbrev μ-loop2 : tie.MeasureT-loop2
 μ-loop2 tables out₀ at n h l c₀ out c = c
@@ -61,7 +61,7 @@ entry c = c .before .before .before .before .before .before .before .before
 
 -- with the column of the powers of alpha
 after-alpha : (c : tie.After-slice-known3 Inv-loop μ-loop Inv-loop2 μ-loop2)
-    → Filled (hdpc (entry c .args .tables .now) (entry c .args .n) (entry c .args .h)) (entry c .args .out .now) (c .before .before .alpha-column .last .0)
+    → FilledFrom (hdpc (entry c .args .tables .now) (entry c .args .n) (entry c .args .h)) (entry c .args .out .now) (c .before .before .alpha-column .last .0)
     (entry c .args .at) (entry c .args .h) (entry c .args .n + entry c .args .h) (c .before .before .before .before .before .loop .c - 1)
 after-alpha c =
     filled-more (c .before .before .before .before .before .loop .inv .2) (omega arith) (omega arith) (c .before .before .alpha-column .ensures)

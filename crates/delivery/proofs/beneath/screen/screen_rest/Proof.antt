@@ -27,7 +27,7 @@ cast-screen-packets : tie.Need-cast-screen-packets
 cast-screen-packets c =
     let s = c .before .before .before .before .before .args in
     let l = row-sound (c .before .before .before .row .result) (s .k) (s .t) (all-passed (c .before .before .screen-row .result) (c .before .before .screen-row .ensures) (c .enum-told .given .1)) in
-    omega (arith, l .k-high, l .rules .ranges .k-16)
+    omega (arith, l .k-high, l .rules .ranges .kp-16)
 
 screen-packets-requires : tie.Need-screen-packets-requires
 screen-packets-requires c κs =

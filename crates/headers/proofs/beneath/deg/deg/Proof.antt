@@ -5,7 +5,7 @@ use native.Mathlib.Omega.{arith}
 use native.Mathlib.Nat.{add-sub-cancel}
 use borrow.Author.Needs.{needs}
 use lib.ListN.{getD}
-use Rattle.headers.specs.Degree.{thresholds, Holds}
+use Rattle.headers.specs.Degree.{thresholds, IntervalOf}
 use Rattle.headers.proofs.Rising.{not-last, held-degree}
 use Rattle.headers.proofs.beneath.deg.deg.Statement.{statement}
 use Rattle.headers.proofs.beneath.deg.deg.Tie as tie
@@ -33,7 +33,7 @@ turn : (c : tie.In-loop Inv-loop μ-loop) → c .before .loop .d < 30
 turn c = not-last (search needs) (omega arith) (c .before .before .pre .0)
 
 -- what the scan found
-held : (c : tie.After-loop Inv-loop μ-loop) → Holds (c .before .before .args .v) (c .before .loop .d)
+held : (c : tie.After-loop Inv-loop μ-loop) → IntervalOf (c .before .before .args .v) (c .before .loop .d)
 held c =
     record { low = c .before .loop .inv .0; high = c .before .loop .inv .1; from = c .before .loop .inv .2; to = omega arith }
 

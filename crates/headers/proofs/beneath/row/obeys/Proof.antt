@@ -16,7 +16,7 @@ returns c =
     λ o. denied b (c .if1 .taken) (c .before .in-range .ensures) (o .ranges)
 
 -- past the first test each number is in its range
-ranged : (c : tie.Else1) → let r = c .before .before .args .r in Ranges (r .k) (r .j) (r .s) (r .h) (r .w)
+ranged : (c : tie.Else1) → let r = c .before .before .args .r in Ranges (r .kp) (r .j) (r .s) (r .h) (r .w)
 ranged c = granted (c .before .in-range .result) (c .if1 .left) (c .before .in-range .ensures)
 
 is-prime-requires : tie.Need-is-prime-requires

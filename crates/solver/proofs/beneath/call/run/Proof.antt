@@ -3,7 +3,6 @@
 use native.Mathlib.Omega.{arith}
 use Rattle.linear.proofs.Rows.{only, only-then}
 use Rattle.solver.specs.System.{systemOf}
-use Rattle.solver.proofs.Filling.{sendable}
 use Rattle.solver.proofs.Holding.{octet-symbols, holds}
 use borrow.Author.Needs.{needs}
 use Rattle.solver.proofs.beneath.call.run.Statement.{statement}
@@ -34,10 +33,13 @@ cast-l : tie.Need-cast-l
 cast-l c = search needs
 
 fill-requires : tie.Need-fill-requires
-fill-requires c κs = let p = c .before .before .before .before .before .before .before .before .before .before .before .before .pre in (p .0, p .1, p .2, p .3, p .4, p .6, omega arith, p .7, p .8)
+fill-requires c κs = (c .before .before .before .before .before .before .before .before .before .before .before .before .pre .fillable, omega arith)
 
 solve-stored-requires : tie.Need-solve-stored-requires
-solve-stored-requires c κs = search needs
+solve-stored-requires c κs =
+    let s = c .before .before .before .before .before .before .before .before .before .before .before .before .before .before .before .before .before .before .before .before in
+    let o = s .pre .fillable .sendable .rules in
+    search needs
 
 same-length : tie.Need-same-length
 same-length c = search needs
@@ -56,7 +58,7 @@ returns c =
     let f = c .before .before .before .before .before .before .before .before .before .before .before .before .before .before .fill .ensures in (
       e .answer (systemOf (a .r) (a .tables .now) (a .k) (a .t) (a .esis .now) (a .symbols .now))
           (octet-symbols (a .r) (a .tables .now) (a .k) (a .t) (a .esis .now) (a .symbols .now) (λ x. omega (arith, c .before .before .before .before .before .before .before .before .before .before .before .before .before .before .before .before .before .before .before .before .before .before .before .before .shared-slice-known3 .given x)))
-          (holds (a .r) (a .tables .now) (a .k) (a .t) (a .esis .now) (a .symbols .now) (sendable (s .pre .0) (s .pre .1) (s .pre .2) (s .pre .3) (s .pre .4)) (f .0) (f .1) (s .pre .6)),
+          (holds (a .r) (a .tables .now) (a .k) (a .t) (a .esis .now) (a .symbols .now) (s .pre .fillable .sendable) (f .0) (f .1) (s .pre .fillable .all)),
       (only-then (only (f .0 .size) (f .0 .high)) (e .rows), only-then (only (f .1 .size) (f .1 .high)) (e .symbols)),
     )
 

@@ -1,31 +1,31 @@
--- `constraints::beneath::encoding::zero` meets its contract.
+-- `field::beneath::runs::clear` meets its contract: after i turns i places are 0.
 -- Assumes nothing.
 use mathlib.Core.Path.{refl}
 use Prim.Native.Nat.{_-_, _≤_}
 use native.Mathlib.Omega.{arith}
+use Rattle.field.specs.Runs.{Written}
+use Rattle.field.proofs.Writing.{written-none, written-more, written-is}
 use borrow.Author.Needs.{needs}
-use Rattle.field.specs.Runs.{Written}
-use Rattle.field.proofs.Writing.{written-none, written-more, written-is}
-use Rattle.constraints.proofs.beneath.encoding.zero.Statement.{statement}
-use Rattle.constraints.proofs.beneath.encoding.zero.Tie as tie
+use Rattle.field.proofs.beneath.runs.clear.Statement.{statement}
+use Rattle.field.proofs.beneath.runs.clear.Tie as tie
 
 abbrev Inv-loop : tie.InvT-loop
-Inv-loop out₀ at n k₀ out k = (k ≤ n) × Written (λ i. 0) out₀ out at k
+Inv-loop dst₀ at n i₀ dst i = (i ≤ n) × Written (λ k. 0) dst₀ dst at i
 
 abbrev μ-loop : tie.MeasureT-loop
-μ-loop out₀ at n k₀ out k = n - k
+μ-loop dst₀ at n i₀ dst i = n - i
 
 loop-holds : tie.Need-loop-holds Inv-loop μ-loop
 loop-holds c = (omega arith, written-none _ _ _)
 
-add-out : tie.Need-add-out Inv-loop μ-loop
-add-out c = search needs
+add-dst : tie.Need-add-dst Inv-loop μ-loop
+add-dst c = search needs
 
-slice-write-out : tie.Need-slice-write-out Inv-loop μ-loop
-slice-write-out c = search needs
+slice-write-dst : tie.Need-slice-write-dst Inv-loop μ-loop
+slice-write-dst c = search needs
 
-add-k : tie.Need-add-k Inv-loop μ-loop
-add-k c = search needs
+add-i : tie.Need-add-i Inv-loop μ-loop
+add-i c = search needs
 
 loop-less : tie.Need-loop-less Inv-loop μ-loop
 loop-less c = search needs
@@ -39,16 +39,16 @@ same-length c = c .before .loop .inv .1 .size
 returns : tie.Need-returns Inv-loop μ-loop
 returns c = written-is (c .before .loop .inv .1) (omega arith)
 
-pub zero-spec : {M : Type 1} → statement M
-zero-spec =
+pub clear-spec : {M : Type 1} → statement M
+clear-spec =
     tie.close
     (tie.spec
     Inv-loop
     μ-loop
     loop-holds
-    add-out
-    slice-write-out
-    add-k
+    add-dst
+    slice-write-dst
+    add-i
     loop-less
     loop-again
     same-length

@@ -1,6 +1,6 @@
-//! The data that this crate and bindings/c carry is that of the published crate.
+//! The data that bindings/rust and bindings/c carry is that of the published crate.
 #![forbid(unsafe_code)]
-use raptorq::{ObjectTransmissionInformation, SourceBlockEncoder};
+use raptorq::{Encoder, ObjectTransmissionInformation, SourceBlockEncoder};
 use spoonripple::parameters::{PUBLISHED_ROWS, PUBLISHED_TABLES};
 use spoonripple::{Refusal, Row, Tables};
 
@@ -39,4 +39,21 @@ fn the_delivery_of_the_c_example() {
     let lines = std::iter::once(config.serialize().to_vec()).chain(packets.iter().map(|p| p.serialize()));
     let made: String = lines.map(|line| line.iter().map(|byte| format!("{byte},")).collect::<Vec<_>>().join(" ") + "\n").collect();
     assert_eq!(made, include_str!("../../data/delivery.txt"), "delivery.txt should be:\n{made}");
+}
+
+/// bindings/data/stream.bin is what the published encoder sends of 200 records in three blocks with symbols of 32 bytes: the transmission information, and then
+/// the packets of the three in turns, six repair packets each, of which every tenth was lost.
+#[test]
+fn the_stream_of_the_rust_example() {
+    let object: Vec<u8> = (0..200).flat_map(|n| format!("record {n}\n").into_bytes()).collect();
+    let config = ObjectTransmissionInformation::new(object.len() as u64, 32, 3, 1, 1);
+    let encoder = Encoder::new(&object, config);
+    let blocks = encoder.get_block_encoders().iter().map(|block| [block.source_packets(), block.repair_packets(0, 6)].concat());
+    let blocks: Vec<Vec<_>> = blocks.collect();
+    let sent = (0..28).flat_map(|n| blocks.iter().map(move |block| block[n].serialize()));
+    let came = sent.enumerate().filter(|(n, _)| n % 10 != 0).flat_map(|(_, packet)| packet);
+    let made: Vec<u8> = config.serialize().into_iter().chain(came).collect();
+    let place = concat!(env!("CARGO_TARGET_TMPDIR"), "/stream.bin");
+    std::fs::write(place, &made).unwrap();
+    assert!(made == include_bytes!("../../data/stream.bin"), "stream.bin should be {place}");
 }
