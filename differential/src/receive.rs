@@ -190,7 +190,7 @@ fn hindered(report: &mut Report, program: &Program, d: &[u8]) {
     let before = older().into_iter().chain([("older".into(), vec![1]), ("shelf/".into(), vec![])]).collect();
     for (arguments, streams, words) in runs {
         let due = seen(&Err(words.into()), None, &before);
-        report.of("hindered", program.run(arguments, streams, &before, d) == due, || format!("receive {arguments:?}, which has to say: {words}"));
+        report.of("hindered", program.run(arguments, streams, &before, d) == due, || format!("the run that has to say: {words}"));
     }
 }
 
