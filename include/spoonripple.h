@@ -3,7 +3,9 @@
  *
  * How a call is read
  *   A number passes as itself. A slice passes as a pointer and how many elements are lent there, NAME and NAME_len.
- *   A pointer is aligned, valid for NAME_len elements and never null, not even where NAME_len is 0.
+ *   A pointer is aligned and valid for NAME_len elements. Where NAME_len is 0 nothing is read or written by it, and it may be null:
+ *   each access is proved to lie below the length, no pointer is given to the compiler as one that is not null or can be
+ *   read, and bindings/c/nulls.c tries every slice of every call.
  *   Where the pointer is to const, the call only reads; of all else, "writes" says which elements may change, and all others stay.
  *
  * Overlap
@@ -17,6 +19,12 @@
  *   from many threads on memory of their own are independent.
  *   Values go to the front of `out`, which needs room for all of them; a longer slice is taken, and its rest stays. The same
  *   holds for every store and list.
+ *
+ * Stack
+ *   spoonripple_solve takes 131 KiB of stack, every other call less than 2 KiB, whatever it is lent and whatever it answers:
+ *   frames have a fixed size, no call calls itself, and none allocates. libc's memcpy and memset come on top, a few KiB where
+ *   the loader binds them late: a thread with 160 KiB is enough, one with 128 KiB (the default of musl) is not. bindings/c/stack
+ *   reads the number of each call from the archive.
  *
  * Words
  *   K source symbols of T octets make a block. `k, j, s, h, w` is a parameter row K', J, S, H, W (5.6 of the RFC, Table 2), of
@@ -298,7 +306,7 @@ uint32_t spoonripple_encode(uint32_t k, uint32_t j, uint32_t s, uint32_t h, uint
  * Lent: rows and values are scratch of any content, M * L and M * t octets, where M = S + H + K' - count + n; out is L * t octets.
  * Writes: after each answer that is no refusal the first M * L octets of rows and M * t of values are 0. The first L * t octets of
  * out are written only with SPOONRIPPLE_DONE, shortfall[0] only with SPOONRIPPLE_OPEN.
- * About 140 KiB of stack are used, whatever the row. */
+ * Stack: 131 KiB, also where it refuses. */
 uint32_t spoonripple_solve(uint32_t k, uint32_t j, uint32_t s, uint32_t h, uint32_t w, const uint32_t *tables, size_t tables_len,
                            uint32_t count, uint16_t t, const uint32_t *esis, size_t esis_len, const uint8_t *symbols, size_t symbols_len,
                            uint8_t *rows, size_t rows_len, uint8_t *values, size_t values_len, uint8_t *out, size_t out_len,

@@ -26,7 +26,7 @@ static void stop_at(uint32_t code, const char *where) {
 
 static void *room(size_t octets) {
     void *store = calloc(octets, 1);
-    if (store == NULL) {
+    if (store == NULL && octets > 0) { /* a slice of length 0 may be null */
         fprintf(stderr, "no memory for %zu octets\n", octets);
         exit(2);
     }
@@ -52,8 +52,8 @@ int main(int argc, char **argv) {
     stop_at(spoonripple_row_check(r[0], r[1], r[2], r[3], r[4], size, 4), "row");
 
     /* The packets in the order in which they came: ESIs in one store, symbols in the other. */
-    uint32_t *esis = room(n * sizeof *esis + 1);
-    uint8_t *symbols = room(n * t + 1);
+    uint32_t *esis = room(n * sizeof *esis);
+    uint8_t *symbols = room(n * t);
     for (size_t i = 0; i < n; i++) {
         const uint8_t *bytes = delivery + 12 + 8 * i;
         stop_at(spoonripple_packet_read(bytes, 8, packet, 4), "packet");
@@ -66,8 +66,9 @@ int main(int argc, char **argv) {
     uint8_t *rows = room(m * l), *values = room(m * t), *set = room(l * t), *source = room((size_t)count * t);
     uint32_t code = spoonripple_solve(r[0], r[1], r[2], r[3], r[4], tables, 1024, count, t, esis, n, symbols, n * t,
                                       rows, m * l, values, m * t, set, l * t, shortfall, 1);
-    if (code == SPOONRIPPLE_OPEN) return printf("open, %u more independent packets at least\n", (unsigned)shortfall[0]), 1;
-    if (code == SPOONRIPPLE_CONTRADICTION) return puts("contradiction"), 1;
+    /* Words are no bytes of the object: they go to standard error. */
+    if (code == SPOONRIPPLE_OPEN) return fprintf(stderr, "open, %u more independent packets at least\n", (unsigned)shortfall[0]), 1;
+    if (code == SPOONRIPPLE_CONTRADICTION) return fputs("contradiction\n", stderr), 1;
     stop_at(code, "solve");
 
     /* The source symbols are the encodings of ESI 0 to K - 1; the last one ends in padding past F. */

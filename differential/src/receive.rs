@@ -7,10 +7,12 @@ use differential::rows::{self, sizes};
 use differential::system::{self, Verdict};
 use raptorq::{ObjectTransmissionInformation, SourceBlockEncoder};
 use raptorq_lent::rng::lent::published;
-use std::io::Write;
-use std::process::{Command, Stdio};
+use std::fs::{self, File};
+use std::process::Stdio;
 
-const PROGRAM: &str = concat!(env!("CARGO_MANIFEST_DIR"), "/../target/bin/receive");
+mod program;
+use program::{Files, Program, Seen};
+
 const TOO_LARGE: &str = "too large for this program: T is at most 1,024, L at most 300, the equations at most 360";
 
 fn number(bytes: &[u8]) -> u64 {
@@ -59,10 +61,13 @@ fn stop(d: &[u8]) -> Option<&'static str> {
     other.then_some("another block: a packet has a block number other than 0")
 }
 
-/// What comes of a delivery, in a word, and what has to be written.
-fn expected(d: &[u8]) -> (&'static str, Vec<u8>) {
+/// What a run comes to: the object's bytes and no word, or a line of words and no byte.
+type Outcome = Result<Vec<u8>, String>;
+
+/// What has to come of a delivery, and its kind in a word.
+fn expected(d: &[u8]) -> (&'static str, Outcome) {
     if let Some(words) = stop(d) {
-        return ("not taken", format!("{words}\n").into());
+        return ("not taken", Err(words.into()));
     }
     let (f, t, row) = (number(&d[..5]) as usize, number(&d[6..8]) as usize, row(d));
     let tables: Vec<u32> = d[32..4128].chunks(4).map(|n| number(n) as u32).collect();
@@ -73,30 +78,28 @@ fn expected(d: &[u8]) -> (&'static str, Vec<u8>) {
         Verdict::Solved(set) => {
             let mut block: Vec<u8> = (0..count).flat_map(|esi| system::made(&system::sent(row, &tables, count, esi), &set, t)).collect();
             block.truncate(f);
-            ("blocks", block)
+            ("blocks", Ok(block))
         }
-        Verdict::Contradiction => ("contradictions", b"contradiction\n".to_vec()),
-        Verdict::Open(n) => ("open", format!("open, {n} more independent packets at least\n").into()),
+        Verdict::Contradiction => ("contradictions", Err("contradiction".into())),
+        Verdict::Open(n) => ("open", Err(format!("open, {n} more independent packets at least"))),
     }
 }
 
-fn received(d: &[u8]) -> Vec<u8> {
-    let mut program = Command::new(PROGRAM).stdin(Stdio::piped()).stdout(Stdio::piped()).spawn().expect("target/bin/receive, built by rt check receive");
-    program.stdin.take().unwrap().write_all(d).expect("it reads all of a delivery");
-    program.wait_with_output().expect("it ends").stdout
+/// Names a delivery, and keeps it in a file to be looked at.
+fn kept(d: &[u8], seed: u64, number: u64) -> String {
+    let name = format!("target/receive-{seed}-{number}.delivery");
+    let kept = fs::write(format!("{}/{name}", env!("CARGO_MANIFEST_DIR")), d);
+    format!("delivery {number} of seed {seed}: {}", kept.map_or_else(|e| format!("not kept, {e}"), |()| format!("in differential/{name}")))
 }
 
-/// A delivery of a block that the crate encoded; some packets are lost, some may come twice.
-fn sound(random: &mut Random) -> Vec<u8> {
-    let (most_k, most_t) = ([250, 40, 40, 20][random.below(4) as usize], if random.below(16) == 0 { 1024 } else { 40 });
-    let (k, t) = (1 + random.below(most_k) as usize, 1 + random.below(most_t) as usize);
-    let f = k * t - random.below(t as u64) as usize;
-    let mut object = random.bytes(f);
-    object.resize(k * t, 0);
-    let config = ObjectTransmissionInformation::new(f as u64, t as u16, 1, 1, 1);
-    let encoder = SourceBlockEncoder::new(0, &config, &object);
+/// A delivery of an object in symbols of t bytes, by the crate's encoder: `came` of its packets, or all.
+fn delivery(random: &mut Random, object: &[u8], t: usize, came: usize) -> Vec<u8> {
+    let k = object.len().div_ceil(t);
+    let mut padded = object.to_vec();
+    padded.resize(k * t, 0);
+    let config = ObjectTransmissionInformation::new(object.len() as u64, t as u16, 1, 1, 1);
+    let encoder = SourceBlockEncoder::new(0, &config, &padded);
     let sent: Vec<_> = encoder.source_packets().into_iter().chain(encoder.repair_packets(random.below(1000) as u32, k as u32 + 10)).collect();
-    let came = (k + random.below(8) as usize).saturating_sub(3);
     let mut packets: Vec<Vec<u8>> = some(random, sent, came).iter().map(|p| p.serialize()).collect();
     if random.below(4) == 0 && !packets.is_empty() {
         packets.push(packets[random.below(packets.len() as u64) as usize].clone());
@@ -104,6 +107,16 @@ fn sound(random: &mut Random) -> Vec<u8> {
     let row = rows::published().into_iter().find(|r| r[0] as usize >= k).unwrap();
     let numbers = row.into_iter().chain(published()).flat_map(u32::to_be_bytes);
     config.serialize().into_iter().chain(numbers).chain(packets.concat()).collect()
+}
+
+/// A delivery of any object; some packets are lost, some may come twice.
+fn sound(random: &mut Random) -> Vec<u8> {
+    let (most_k, most_t) = ([250, 40, 40, 20][random.below(4) as usize], if random.below(16) == 0 { 1024 } else { 40 });
+    let (k, t) = (1 + random.below(most_k) as usize, 1 + random.below(most_t) as usize);
+    let f = k * t - random.below(t as u64) as usize;
+    let object = random.bytes(f);
+    let came = (k + random.below(8) as usize).saturating_sub(3);
+    delivery(random, &object, t, came)
 }
 
 /// What may happen to it on the way; most times nothing.
@@ -122,14 +135,79 @@ fn damage(random: &mut Random, d: &mut Vec<u8>) {
     }
 }
 
+/// What has to be seen of a run, where the object goes to standard output or to a file of this name.
+fn seen(due: &Outcome, to: Option<&str>, before: &Files) -> Seen {
+    let mut due = match due {
+        Ok(object) => Seen { output: object.clone(), words: vec![], files: before.clone() },
+        Err(words) => return Seen { output: vec![], words: format!("{words}\n").into(), files: before.clone() },
+    };
+    if let Some(name) = to {
+        due.files.insert(name.into(), std::mem::take(&mut due.output));
+    }
+    due
+}
+
+const OUT: &str = "catalogue";
+
+/// What an earlier night left: the file, and what a run that was killed had written beside it.
+fn older() -> Files {
+    Files::from([(OUT.into(), b"of the night before".to_vec()), (".catalogue.receive-0".into(), b"of the".to_vec())])
+}
+
+/// One delivery by standard output, and one in four to a file as well: whether that is there before, and whether its path is absolute, goes by the number.
+fn tried(report: &mut Report, program: &Program, d: &[u8], seed: u64, number: u64) {
+    let (kind, due) = expected(d);
+    let piped = || [Stdio::piped(), Stdio::piped()];
+    let nothing = Files::new();
+    let same = program.run(&[], piped(), &nothing, d) == seen(&due, None, &nothing);
+    report.of(kind, same, || kept(d, seed, number));
+    if number % 4 == 0 {
+        let path = if number % 8 == 0 { OUT.into() } else { program.folder.join(OUT).display().to_string() };
+        let before = if number % 16 < 8 { older() } else { nothing };
+        let same = program.run(&[&path], piped(), &before, d) == seen(&due, Some(OUT), &before);
+        report.of("to a file", same, || format!("to a file, {}", kept(d, seed, number)));
+    }
+}
+
+/// What keeps the program from its work though the delivery is solved: it says so, writes nothing, and leaves every file as it was.
+fn hindered(report: &mut Report, program: &Program, d: &[u8]) {
+    let piped = || [Stdio::piped(), Stdio::piped()];
+    let folder = || [File::open(&program.folder).expect("it is laid").into(), Stdio::piped()];
+    let full = || [Stdio::piped(), File::create("/dev/full").expect("Linux has it").into()];
+    let long = "x".repeat(4001);
+    let one = "more than one argument: it is receive, or receive OUT, with the delivery on standard input";
+    let runs: [(&[&str], [Stdio; 2], &str); 9] = [
+        (&[OUT, OUT], piped(), one),
+        (&[""], piped(), "the name of OUT is empty"),
+        (&[&long], piped(), "the name of OUT has more than 4,000 bytes"),
+        (&[], folder(), "standard input cannot be read: Is a directory"),
+        (&[OUT], folder(), "standard input cannot be read: Is a directory"),
+        (&[], full(), "standard output cannot be written: No space left on device"),
+        (&["missing/catalogue"], piped(), "no file can be made beside OUT: No such file or directory"),
+        (&["older/catalogue"], piped(), "no file can be made beside OUT: Not a directory"),
+        (&["shelf"], piped(), "the file beside OUT cannot be renamed to OUT: Is a directory"),
+    ];
+    let before = older().into_iter().chain([("older".into(), vec![1]), ("shelf/".into(), vec![])]).collect();
+    for (arguments, streams, words) in runs {
+        let due = seen(&Err(words.into()), None, &before);
+        report.of("hindered", program.run(arguments, streams, &before, d) == due, || format!("the run that has to say: {words}"));
+    }
+}
+
 pub fn run(count: u64, seed: u64) -> Found {
     let mut report = Report::new("receive");
     let mut random = Random::new(seed);
-    for _ in 0..count / 200 {
+    let program = Program::new();
+    // The object that words could be taken for, with every packet.
+    let line = b"contradiction\n";
+    let d = delivery(&mut random, line, 7, 14);
+    assert_eq!(expected(&d), ("blocks", Ok(line.to_vec())), "the harness solves it");
+    tried(&mut report, &program, &d, seed, 0);
+    hindered(&mut report, &program, &d);
+    for number in 1..=count / 200 {
         let mut d = sound(&mut random);
         damage(&mut random, &mut d);
-        let (kind, written) = expected(&d);
-        report.of(kind, received(&d) == written, || format!("the delivery {d:?}"));
+        tried(&mut report, &program, &d, seed, number);
     }
     report.close()
 }
