@@ -123,7 +123,7 @@ fn damage(random: &mut Random, d: &mut Vec<u8>) {
 }
 
 pub fn run(count: u64, seed: u64) -> Found {
-    let mut report = Report::new("receive");
+    let mut report = Report::new("receive", seed);
     let mut random = Random::new(seed);
     for _ in 0..count / 200 {
         let mut d = sound(&mut random);
