@@ -114,10 +114,11 @@ fn builder(report: &mut Report, random: &mut Random, row: Row, tables: &[u32], i
     let (zero_rows, least) = if with_hdpc { (h, k) } else { (0, k + h) };
     let first = s + zero_rows;
     let used = (first + ids.len()) * (k + s + h).div_ceil(64);
-    let (room, lent_tables) = (random.room(used), rows::lent_tables(random, tables));
+    let (few, many) = (ids.len() < least, ids.len() > 65535);
+    let room = if few || many { random.below(9) as usize } else { random.room(used) };
+    let lent_tables = rows::lent_tables(random, tables);
     let lent = Lent::to(random.words(room), |words| call(row, &lent_tables, ids, words));
     let said = || format!("builder of {row:?} with {} ids, HDPC {with_hdpc}, {} numbers, room {room}", ids.len(), lent_tables.len());
-    let (few, many) = (ids.len() < least, ids.len() > 65535);
     let refused = refusal(&[(4, sizes(row).is_none()), (5, lent_tables.len() != 1024), (9, few), (9, many), (8, room < used)]);
     if let Some(n @ (4 | 5 | 8)) = refused {
         return report.refusal(lent.refused(n), said);
@@ -168,7 +169,10 @@ fn made_up(report: &mut Report, random: &mut Random) {
     let row = rows::accepted(random);
     hdpc(report, random, row, &tables);
     let n = (row[0] + random.below(u64::from(row[3]) + 5) as u32).saturating_sub(random.below(3) as u32);
-    let ids: Vec<u32> = (0..n).map(|_| random.word() as u32 >> random.below(32)).collect();
+    let mut ids: Vec<u32> = (0..n).map(|_| random.word() as u32 >> random.below(32)).collect();
+    builders(report, random, row, &tables, &ids);
+    // Here the crate's rand overflows.
+    ids.push(u32::MAX - random.below(3) as u32);
     builders(report, random, row, &tables, &ids);
     let broken = rows::broken(random);
     hdpc(report, random, broken, &tables);

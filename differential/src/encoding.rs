@@ -39,7 +39,8 @@ fn made_up(report: &mut Report, random: &mut Random) {
     let have = (l.min(2000) * usize::from(t)).saturating_sub(usize::from(random.below(12) == 0));
     let intermediates = random.bytes(have);
     for _ in 0..8 {
-        let (count, esi) = (random.near(row[0].min(70000) as usize + 1) as u32, random.word() as u32 >> random.below(32));
+        let count = random.near(row[0].min(70000) as usize + 1) as u32;
+        let esi = if random.below(8) == 0 { (1 << 24) - 1 + random.below(3) as u32 } else { random.word() as u32 >> random.below(32) };
         encode(report, random, (row, &tables), (count, t, esi), &intermediates);
     }
     rng::lent::lend(None);

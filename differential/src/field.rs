@@ -57,7 +57,7 @@ fn triple(report: &mut Report, random: &mut Random) {
 }
 
 fn run_of_octets(report: &mut Report, random: &mut Random) {
-    // Scalars 0 and 1 are often among them (D4).
+    // Scalars 0 and 1 are often among them.
     let (n, c) = (random.below(200) as usize, random.byte() >> random.below(8));
     let m = if random.below(4) == 0 { random.below(200) as usize } else { n };
     let (dst, src) = (random.bytes(n), random.bytes(m));
@@ -71,6 +71,10 @@ fn run_of_octets(report: &mut Report, random: &mut Random) {
     let said = || format!("kind {kind}, scalar {c}, {dst:?}, {src:?}");
     match refusal(&[(8, kind != 1 && n != m)]) {
         Some(n) => report.listed("D3 (runs of two lengths)", answer == Err(n) && ours == dst && given.is_none(), said),
+        None if cfg!(debug_assertions) && kind == 2 && c < 2 => {
+            (0..c).for_each(|_| octets::add_assign(&mut theirs, &src));
+            report.listed("D4 (scalars 0 and 1)", answer == Ok(()) && given.is_none() && ours == theirs, said);
+        }
         None => report.equal(answer == Ok(()) && given.is_some() && ours == theirs, said),
     }
 }

@@ -64,7 +64,8 @@ fn refused(len: usize, m: Shape, s: &Step) -> Option<u32> {
     ])
 }
 
-/// Whether the crate takes a step on a matrix of just the words of its rows: each word that it goes to is one of them, and no assertion fails.
+/// Whether the crate takes a step on a matrix of just the words of its rows: each word that it goes to is one of them, and no assertion fails, of which
+/// that two rows begin at two words is one of a debug build.
 fn takes(m: Shape, s: &Step) -> bool {
     let wide = row_words(m.width);
     let len = m.height * wide;
@@ -80,7 +81,7 @@ fn takes(m: Shape, s: &Step) -> bool {
         "query_non_zero_columns" => s.b >= m.width || word(s.a, m.width - 1) < len,
         "swap_rows" => s.a.max(s.b) * wide + wide <= len,
         "swap_columns" => s.c >= m.height || word(m.height - 1, s.a.max(s.b)) < len,
-        "add_assign_rows" => s.a != s.b && s.a.max(s.b) * wide + wide <= len,
+        "add_assign_rows" => s.a != s.b && s.a.max(s.b) * wide + wide <= len && !(cfg!(debug_assertions) && wide == 0),
         _ => s.a <= m.height && s.b <= m.width && (s.b > 0 || s.a == 0 || m.width == 0),
     }
 }
@@ -150,7 +151,11 @@ fn step(random: &mut Random, m: Shape) -> Step {
 
 /// Where the crate panics on what document 01 takes.
 fn panics_on_valid(s: &Step) -> &'static str {
-    if s.kind == "resize" { "D17 (resize to width 0)" } else { "D18 (empty count at the end)" }
+    match s.kind {
+        "resize" => "D17 (resize to width 0)",
+        "count_ones" => "D18 (empty count at the end)",
+        _ => "D29 (row sum at width 0)",
+    }
 }
 
 /// One step on both sides; whether the matrix now has the shape of a resize.
@@ -179,7 +184,7 @@ fn one_step(report: &mut Report, words: &mut [u64], crates: &mut DenseBinaryMatr
     if given.is_none() {
         // An empty count is 0; width 0 leaves every word.
         *crates = kept;
-        let right = if s.kind == "resize" { vec![] } else { vec![0] };
+        let right = if s.answers() { vec![0] } else { vec![] };
         report.listed(panics_on_valid(s), answer == Ok(right) && words == before && as_computed, said);
         return false;
     }
@@ -225,8 +230,8 @@ fn stores(report: &mut Report, random: &mut Random) {
 /// A matrix with more rows or columns than document 01 allows.
 fn large(report: &mut Report, random: &mut Random) {
     let m = match random.below(8) {
-        0 => Shape { height: 131_071 + random.below(3) as usize, width: random.below(130) as usize },
-        _ => Shape { height: random.below(12) as usize, width: 65_536 + random.below(130) as usize },
+        0 => Shape { height: 131_071 + random.below(2) as usize, width: random.below(130) as usize },
+        _ => Shape { height: random.below(12) as usize, width: 65_536 + (random.below(2) * random.below(130)) as usize },
     };
     let lent = Lent::to(vec![7; m.height * row_words(m.width)], |words| archive::matrix_new(words, m));
     let theirs = caught(|| DenseBinaryMatrix::new(m.height, m.width, 0));
