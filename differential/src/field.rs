@@ -15,14 +15,10 @@ const NEVER: Own = (1, false, "");
 
 /// A call for one octet, given this room.
 fn single(report: &mut Report, room: usize, own: Own, ours: impl FnOnce(&mut [u64]) -> Answer<()>, theirs: impl FnOnce() -> Octet, said: impl Fn() -> String) {
-    let answer = values(room, 1, ours).map(|v| v[0]);
-    let said = || format!("{}, room {room}", said());
     let (number, applies, rule) = own;
-    match refusal(&[(number, applies), (8, room < 1)]) {
-        Some(8) => report.refusal(answer == Err(8), said),
-        Some(n) => report.listed(rule, answer == Err(n) && caught(theirs).is_none(), said),
-        None => report.equal(caught(theirs).is_some_and(|o| answer == Ok(o.byte().into())), said),
-    }
+    let refused = refusal(&[(number, applies), (8, room < 1)]);
+    let given = caught(theirs).map(|octet| vec![octet.byte().into()]);
+    report.asked(refused, (number, rule), values(room, 1, ours), given, || format!("{}, room {room}", said()));
 }
 
 fn pairs(report: &mut Report, random: &mut Random) {

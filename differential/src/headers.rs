@@ -150,12 +150,8 @@ fn numbers(report: &mut Report, random: &mut Random, tables: &[u32]) {
     let (i, j, room) = (edgy(random, 32) as u32, edgy(random, 32) as u32, random.room(4));
     let ours = values(room, 4, |out| archive::partition(i, j, out));
     let given = caught(|| base::partition(i, j)).map(|(il, is, jl, js)| [il, is, jl, js].map(u64::from).to_vec());
-    let said = || format!("partition {i} into {j}, room {room}");
-    match refusal(&[(2, j == 0), (8, room < 4)]) {
-        Some(2) => report.listed("D8 (partition into 0)", ours == Err(2) && given.is_none(), said),
-        Some(n) => report.refusal(ours == Err(n), said),
-        None => report.equal(given.is_some() && ours.ok() == given, said),
-    }
+    let refused = refusal(&[(2, j == 0), (8, room < 4)]);
+    report.asked(refused, (2, "D8 (partition into 0)"), ours, given, || format!("partition {i} into {j}, room {room}"));
     let v = if random.below(2) == 0 { random.below(1 << 20) as u32 } else { edgy(random, 21) as u32 };
     degree(report, v, edgy(random, 17) as u32, random.room(1));
     chosen(report, random, tables);
@@ -164,12 +160,8 @@ fn numbers(report: &mut Report, random: &mut Random, tables: &[u32]) {
 fn degree(report: &mut Report, v: u32, w: u32, room: usize) {
     let ours = values(room, 1, |out| archive::deg(v, w, out));
     let given = caught(|| base::deg(v, w)).map(|d| vec![u64::from(d)]);
-    let said = || format!("deg {v} of {w}, room {room}");
-    match refusal(&[(2, v >= 1 << 20), (2, w < 2), (8, room < 1)]) {
-        Some(2) => report.listed("D9 (degree outside its range)", ours == Err(2) && given.is_none(), said),
-        Some(n) => report.refusal(ours == Err(n), said),
-        None => report.equal(given.is_some() && ours.ok() == given, said),
-    }
+    let refused = refusal(&[(2, v >= 1 << 20), (2, w < 2), (8, room < 1)]);
+    report.asked(refused, (2, "D9 (degree outside its range)"), ours, given, || format!("deg {v} of {w}, room {room}"));
 }
 
 /// A number by rand.

@@ -220,14 +220,12 @@ fn stores(report: &mut Report, random: &mut Random) {
     let mut words = lent.before;
     let mut crates = crates_matrix(m, &words);
     one_step(report, &mut words, &mut crates, m, &step(random, m));
-    let grown = Step { kind: "resize", a: 131_071, b: m.width, c: 0, value: 0, room: 0, out: 0 };
-    one_step(report, &mut words, &mut crates, m, &grown);
     if random.below(64) == 0 {
         large(report, random);
     }
 }
 
-/// A matrix with more rows or columns than document 01 allows.
+/// A matrix with more rows or columns than document 01 allows, and a small one that is to become so large.
 fn large(report: &mut Report, random: &mut Random) {
     let m = match random.below(8) {
         0 => Shape { height: 131_071 + random.below(2) as usize, width: random.below(130) as usize },
@@ -239,6 +237,11 @@ fn large(report: &mut Report, random: &mut Random) {
     let mut words = lent.before;
     let mut crates = crates_matrix(m, &words);
     one_step(report, &mut words, &mut crates, m, &step(random, m));
+    let small = Shape { height: random.below(3) as usize, width: random.below(130) as usize };
+    let grown = Step { kind: "resize", a: m.height, b: m.width, c: 0, value: 0, room: 0, out: 0 };
+    let mut words = random.words(6);
+    let mut crates = crates_matrix(small, &words[..small.height * row_words(small.width)]);
+    one_step(report, &mut words, &mut crates, small, &grown);
 }
 
 pub fn run(count: u64, seed: u64) -> Found {

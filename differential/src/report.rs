@@ -1,5 +1,6 @@
 //! What an area found: how many cases, how each was held, and where the input of each difference is.
 use crate::Random;
+use crate::archive::Answer;
 use std::collections::BTreeMap;
 use std::io::Write;
 
@@ -69,6 +70,22 @@ impl Report {
     /// An answer where the crate cannot be asked: the harness has computed it by itself.
     pub fn computed(&mut self, same: bool, input: impl FnOnce() -> String) {
         self.case(same, input, |found| found.computed += 1);
+    }
+
+    /// A call that one number refuses where the crate panics as listed, another where the crate cannot be asked, and that else gives what the crate gives.
+    pub fn asked<V: PartialEq>(
+        &mut self,
+        refused: Option<u32>,
+        (number, rule): (u32, &'static str),
+        ours: Answer<V>,
+        given: Option<V>,
+        input: impl FnOnce() -> String,
+    ) {
+        match refused {
+            Some(n) if n == number => self.listed(rule, ours == Err(n) && given.is_none(), input),
+            Some(n) => self.refusal(ours == Err(n), input),
+            None => self.equal(given.is_some() && ours.ok() == given, input),
+        }
     }
 
     /// The case that follows, or went before, is of a kind that the area's row counts.
