@@ -227,7 +227,7 @@ fn stores(report: &mut Report, random: &mut Random) {
 
 /// A matrix with more rows or columns than document 01 allows, and a small one that is to become so large.
 fn large(report: &mut Report, random: &mut Random) {
-    let m = match random.below(8) {
+    let m = match random.below(4) {
         0 => Shape { height: 131_071 + random.below(2) as usize, width: random.below(130) as usize },
         _ => Shape { height: random.below(12) as usize, width: 65_536 + (random.below(2) * random.below(130)) as usize },
     };
