@@ -95,21 +95,17 @@ fn real(report: &mut Report, random: &mut Random) {
     report.listed("D6 (ESI of 2^24)", lent.refused(9) && given.is_none(), || format!("symbol 2^24 of a block of {k}"));
 }
 
-/// Blocks that are refused here whatever the row: of no source symbols, of more than any row has, of symbols of no octets.
+/// A call of ours for a symbol of a block that is refused, and the crate's encoder with its bytes.
 fn refused_blocks(report: &mut Report) {
     let tables = rng::lent::published();
-    let all = rows::published();
-    for (k, t, row, number, rule) in [
-        (0, 1, all[0], 9, "D32 (K of 0, or above 56,403)"),
-        (56404, 1, all[476], 9, "D32 (K of 0, or above 56,403)"),
-        (10, 0, all[0], 10, "D34 (symbol size 0)"),
-    ] {
+    for (k, t, row, rule) in rows::refused_blocks() {
         let config = ObjectTransmissionInformation::new(u64::from(k * u32::from(t)), t, 2, 1, 1);
         let data = vec![0; k as usize * usize::from(t)];
         let given = caught(|| SourceBlockEncoder::new(0, &config, &data).repair_packets(0, 1));
         let seen = if k == 0 { given.is_some_and(|packets| packets[0].data() == [0]) } else { given.is_none() };
         let lent = Lent::to(vec![7; 16], |out| archive::encode(row, &tables, k, t, 0, &vec![0; 70000], out));
-        report.listed(rule, lent.refused(number) && seen, || format!("encode of K {k}, T {t}"));
+        let number = refusal(&[(9, !(1..=row[0]).contains(&k)), (10, t == 0)]);
+        report.listed(rule, number.is_some_and(|n| lent.refused(n)) && seen, || format!("encode of K {k}, T {t}"));
     }
 }
 

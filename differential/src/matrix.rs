@@ -8,6 +8,7 @@ use raptorq::octet::Octet;
 const WIDTHS: [u64; 12] = [0, 1, 2, 10, 62, 63, 64, 65, 127, 128, 129, 200];
 const HEIGHTS: [u64; 8] = [0, 1, 2, 3, 5, 9, 64, 65];
 const KINDS: [&str; 9] = ["set", "get", "count_ones", "get_ones_in_column", "query_non_zero_columns", "swap_rows", "swap_columns", "add_assign_rows", "resize"];
+const ABOVE_LIMITS: &str = "D27 (stores above the limits)";
 
 fn row_words(width: usize) -> usize {
     width.div_ceil(64)
@@ -174,7 +175,7 @@ fn one_step(report: &mut Report, words: &mut [u64], crates: &mut DenseBinaryMatr
     if let Some(n) = refused {
         *crates = kept;
         let rule = match n {
-            2 => "D27 (stores above the limits)",
+            2 => ABOVE_LIMITS,
             _ if given.is_some() => "D16 (the matrix takes a place outside)",
             _ => "D14 (the matrix panics)",
         };
@@ -206,18 +207,26 @@ fn sequence(report: &mut Report, random: &mut Random) {
     }
 }
 
+/// A new matrix in a store of these words; what the store then holds.
+fn make(report: &mut Report, m: Shape, before: Vec<u64>) -> Vec<u64> {
+    let (len, used) = (before.len(), m.height * row_words(m.width));
+    let lent = Lent::to(before, |words| archive::matrix_new(words, m));
+    let given = caught(|| DenseBinaryMatrix::new(m.height, m.width, 0).elements);
+    let said = || format!("new {m:?} in {len}");
+    match refusal(&[(2, above_limits(m)), (8, len < used)]) {
+        Some(2) => report.listed(ABOVE_LIMITS, lent.refused(2) && given.is_some(), said),
+        Some(n) => report.refusal(lent.refused(n), said),
+        None => report.equal(given.is_some_and(|words| lent.holds(&words[..used])), said),
+    }
+    lent.after
+}
+
 /// New matrices, a step on a store that may be too short, and now and then a matrix above the limits.
 fn stores(report: &mut Report, random: &mut Random) {
     let m = Shape { height: random.below(12) as usize, width: random.below(200) as usize };
-    let used = m.height * row_words(m.width);
-    let len = (used + random.below(4) as usize).saturating_sub(2);
-    let lent = Lent::to(random.words(len), |words| archive::matrix_new(words, m));
-    let said = || format!("new {m:?} in {len}");
-    match refusal(&[(8, len < used)]) {
-        Some(n) => report.refusal(lent.refused(n), said),
-        None => report.equal(lent.holds(&DenseBinaryMatrix::new(m.height, m.width, 0).elements[..used]), said),
-    }
-    let mut words = lent.before;
+    let len = (m.height * row_words(m.width) + random.below(4) as usize).saturating_sub(2);
+    make(report, m, random.words(len));
+    let mut words = random.words(len);
     let mut crates = crates_matrix(m, &words);
     one_step(report, &mut words, &mut crates, m, &step(random, m));
     if random.below(64) == 0 {
@@ -231,16 +240,13 @@ fn large(report: &mut Report, random: &mut Random) {
         0 => Shape { height: 131_071 + random.below(2) as usize, width: random.below(130) as usize },
         _ => Shape { height: random.below(12) as usize, width: 65_536 + (random.below(2) * random.below(130)) as usize },
     };
-    let lent = Lent::to(vec![7; m.height * row_words(m.width)], |words| archive::matrix_new(words, m));
-    let theirs = caught(|| DenseBinaryMatrix::new(m.height, m.width, 0));
-    report.listed("D27 (stores above the limits)", lent.refused(2) && theirs.is_some(), || format!("new {m:?}"));
-    let mut words = lent.before;
+    let mut words = make(report, m, vec![7; m.height * row_words(m.width)]);
     let mut crates = crates_matrix(m, &words);
     one_step(report, &mut words, &mut crates, m, &step(random, m));
     let small = Shape { height: random.below(3) as usize, width: random.below(130) as usize };
     let grown = Step { kind: "resize", a: m.height, b: m.width, c: 0, value: 0, room: 0, out: 0 };
-    let mut words = random.words(6);
-    let mut crates = crates_matrix(small, &words[..small.height * row_words(small.width)]);
+    let mut words = random.words(small.height * row_words(small.width));
+    let mut crates = crates_matrix(small, &words);
     one_step(report, &mut words, &mut crates, small, &grown);
 }
 

@@ -34,6 +34,13 @@ pub fn published() -> Vec<Row> {
     constants::SYSTEMATIC_INDICES_AND_PARAMETERS.iter().map(|&(k, j, s, h, w)| [k, j, s, h, w]).collect()
 }
 
+/// K, T and the row of blocks that are refused whatever came: of no source symbols, of more than any row has, of symbols of no octets. The rule is that of the crate's answer.
+pub fn refused_blocks() -> [(u32, u16, Row, &'static str); 3] {
+    let (first, last) = (published()[0], published()[476]);
+    let outside = "D32 (K of 0, or above 56,403)";
+    [(0, 1, first, outside), (56404, 1, last, outside), (10, 0, first, "D34 (symbol size 0)")]
+}
+
 /// What the crate gives for a published row.
 pub fn published_sizes([k, _, s, _, w]: Row) -> [u64; 4] {
     [constants::num_intermediate_symbols(k), constants::num_pi_symbols(k), w - s, constants::calculate_p1(k)].map(u64::from)

@@ -7,6 +7,7 @@ use raptorq::symbol_slab::SymbolSlab;
 
 const COUNTS: [u64; 7] = [0, 1, 2, 3, 5, 8, 20];
 const SIZES: [u64; 14] = [0, 1, 2, 15, 16, 17, 63, 64, 65, 128, 255, 256, 257, 600];
+const ABOVE_LIMITS: &str = "D27 (stores above the limits)";
 
 /// One operation: its kind, its places, its scalar, and the room for what it answers.
 #[derive(Debug)]
@@ -121,7 +122,7 @@ fn one_step(report: &mut Report, store: &mut [u8], crates: &mut SymbolSlab, slab
     if let Some(n) = refused {
         *crates = kept;
         let rule = match n {
-            2 => "D27 (stores above the limits)",
+            2 => ABOVE_LIMITS,
             8 => "D28 (an order of another length)",
             _ if given.is_some() => "D15 (a place outside is taken where T is 0)",
             _ => "D14 (the slab panics)",
@@ -141,19 +142,27 @@ fn one_step(report: &mut Report, store: &mut [u8], crates: &mut SymbolSlab, slab
     report.equal(given.is_some() && shown == given && memory, said);
 }
 
+/// Zeros in a store of these bytes; what the store then holds.
+fn zeros(report: &mut Report, slab: Slab, before: Vec<u8>) -> Vec<u8> {
+    let len = before.len();
+    let lent = Lent::to(before, |store| archive::slab_with_zeros(store, slab));
+    let given = caught(|| SymbolSlab::with_zeros(slab.count, slab.size.into()).data);
+    let said = || format!("zeros, {slab:?} in {len}");
+    match refusal(&[(2, slab.count > 131_070), (8, len < slab.count * usize::from(slab.size))]) {
+        Some(2) => report.listed(ABOVE_LIMITS, lent.refused(2) && given.is_some(), said),
+        Some(n) => report.refusal(lent.refused(n), said),
+        None => report.equal(given.is_some_and(|bytes| lent.holds(&bytes)), said),
+    }
+    lent.after
+}
+
 /// Stores that are measured: too short, orders of another length, zeroing, and now and then more symbols than there may be.
 fn stores(report: &mut Report, random: &mut Random) {
     let slab = Slab { count: random.below(9) as usize, size: random.below(40) as u16 };
-    let used = slab.count * usize::from(slab.size);
-    let len = (used + random.below(4) as usize).saturating_sub(2);
-    let lent = Lent::to(random.bytes(len), |store| archive::slab_with_zeros(store, slab));
-    let said = || format!("zeros, {slab:?} in {len}");
-    match refusal(&[(8, len < used)]) {
-        Some(n) => report.refusal(lent.refused(n), said),
-        None => report.equal(lent.holds(&SymbolSlab::with_zeros(slab.count, slab.size.into()).data), said),
-    }
+    let len = (slab.count * usize::from(slab.size) + random.below(4) as usize).saturating_sub(2);
+    zeros(report, slab, random.bytes(len));
+    let mut store = random.bytes(len);
     let order: Vec<u32> = (0..random.below(12)).map(|_| random.below(9) as u32).collect();
-    let mut store = lent.after;
     let mut crates = crates_slab(slab, &order, &store);
     one_step(report, &mut store, &mut crates, slab, &order, &Step::any(random, 9));
     if random.below(64) == 0 {
@@ -164,11 +173,8 @@ fn stores(report: &mut Report, random: &mut Random) {
 /// More symbols than document 01 allows.
 fn many(report: &mut Report, random: &mut Random) {
     let slab = Slab { count: 131_071 + random.below(2) as usize, size: random.below(4) as u16 };
-    let lent = Lent::to(vec![7; slab.count * usize::from(slab.size)], |store| archive::slab_with_zeros(store, slab));
-    let theirs = caught(|| SymbolSlab::with_zeros(slab.count, slab.size.into()));
-    report.listed("D27 (stores above the limits)", lent.refused(2) && theirs.is_some(), || format!("zeros, {slab:?}"));
+    let mut store = zeros(report, slab, vec![7; slab.count * usize::from(slab.size)]);
     let order: Vec<u32> = if random.below(2) == 0 { vec![] } else { (0..slab.count as u32).rev().collect() };
-    let mut store = lent.after;
     let mut crates = crates_slab(slab, &order, &store);
     one_step(report, &mut store, &mut crates, slab, &order, &Step::any(random, slab.count));
 }

@@ -57,7 +57,7 @@ fn solved(random: &mut Random, row: Row, tables: &[u32], came: Arrived, fixed: &
 fn kind(verdict: &Verdict) -> &'static str {
     match verdict {
         Verdict::Solved(_) => "systems solved",
-        Verdict::Contradiction => "contradictions",
+        Verdict::Contradiction => "systems contradictory",
         Verdict::Open(_) => "systems open",
     }
 }
@@ -210,7 +210,7 @@ fn made_up(report: &mut Report, random: &mut Random) {
 }
 
 /// A call that may be refused, whole.
-#[derive(Clone, Debug)]
+#[derive(Clone, Debug, PartialEq)]
 struct Call {
     row: Row,
     tables: Vec<u32>,
@@ -233,6 +233,20 @@ fn refused_by(c: &Call) -> Option<u32> {
         (10, t == 0 || c.symbols.len() != n * t),
         (8, c.lent.rows.len() < m * l || c.lent.values.len() < m * t || c.lent.out.len() < l * t || c.lent.shortfall.is_empty()),
     ])
+}
+
+/// The answer of ours, and what it leaves of all that it was given.
+fn called(call: &Call) -> (u32, Call) {
+    let mut after = call.clone();
+    let came = Arrived { count: call.count, t: call.t, esis: &after.esis, symbols: &after.symbols };
+    let code = archive::solve(call.row, &after.tables, came, &mut after.lent);
+    (code, after)
+}
+
+/// That document 01 refuses a call, and ours by the same number, with the whole memory as it was, inputs too.
+fn refuses(call: &Call) -> bool {
+    let (code, after) = called(call);
+    refused_by(call) == Some(code) && after == *call
 }
 
 /// Whether the crate makes no packet of one of these ESIs.
@@ -282,19 +296,16 @@ fn refused(report: &mut Report, random: &mut Random) {
     for _ in 0..=random.below(3) {
         damage(random, &mut call);
     }
-    let kept = call.clone();
-    let came = Arrived { count: call.count, t: call.t, esis: &call.esis, symbols: &call.symbols };
-    let code = archive::solve(call.row, &call.tables, came, &mut call.lent);
-    let inputs = call.tables == kept.tables && call.esis == kept.esis && call.symbols == kept.symbols;
-    let said = || format!("{kept:?}");
-    match refused_by(&kept) {
-        Some(9) if kept.esis.iter().any(|e| *e >= 1 << 24) => {
-            report.listed("D6 (ESI of 2^24)", code == 9 && inputs && call.lent == kept.lent && unpacked(&kept.esis), said);
-        }
-        Some(n) => report.refusal(code == n && inputs && call.lent == kept.lent, said),
+    let said = || format!("{call:?}");
+    match refused_by(&call) {
+        Some(9) if call.esis.iter().any(|e| *e >= 1 << 24) => report.listed("D6 (ESI of 2^24)", refuses(&call) && unpacked(&call.esis), said),
+        Some(_) => report.refusal(refuses(&call), said),
         None => {
-            let (verdict, measures) = judged(kept.row, &kept.tables, came, &system::fixed(kept.row, &kept.tables, kept.count));
-            report.of(kind(&verdict), as_told(&verdict, code, &kept.lent, &call.lent, measures) && inputs, said);
+            let came = Arrived { count: call.count, t: call.t, esis: &call.esis, symbols: &call.symbols };
+            let (verdict, measures) = judged(call.row, &call.tables, came, &system::fixed(call.row, &call.tables, call.count));
+            let (code, after) = called(&call);
+            let inputs = after.tables == call.tables && after.esis == call.esis && after.symbols == call.symbols;
+            report.of(kind(&verdict), as_told(&verdict, code, &call.lent, &after.lent, measures) && inputs, said);
         }
     }
 }
@@ -344,40 +355,38 @@ fn display(report: &mut Report, random: &mut Random) {
     }
 }
 
-/// K of 0 and above any row's, and symbols of no octets: a call of ours without arrivals, and the crate's decoder without packets.
+/// A call of ours with these packets, in the published tables.
+fn call_with(random: &mut Random, row: Row, count: u32, t: u16, packets: &[EncodingPacket]) -> Call {
+    let (esis, symbols) = apart(packets);
+    let lent = stores(random, row, count.min(row[0]), t, esis.len());
+    Call { row, tables: published(), count, t, esis, symbols, lent }
+}
+
+/// A call of ours for a block that is refused, without arrivals, and the crate's decoder without packets.
 fn refused_blocks(report: &mut Report, random: &mut Random) {
-    let all = rows::published();
-    for (k, t, row, number, rule) in [
-        (0, 1, all[0], 9, "D32 (K of 0, or above 56,403)"),
-        (56404, 1, all[476], 9, "D32 (K of 0, or above 56,403)"),
-        (10, 0, all[0], 10, "D34 (symbol size 0)"),
-    ] {
+    for (k, t, row, rule) in rows::refused_blocks() {
         let length = u64::from(k) * u64::from(t);
         let config = ObjectTransmissionInformation::new(length, t, 2, 1, 1);
         let given = caught(|| SourceBlockDecoder::new(0, &config, length).decode(vec![]));
         let seen = if k == 0 { given == Some(Some(vec![])) } else { given.is_none() };
-        let before = stores(random, all[0], 0, t, 0);
-        let mut lent = before.clone();
-        let code = archive::solve(row, &published(), Arrived { count: k, t, esis: &[], symbols: &[] }, &mut lent);
-        report.listed(rule, code == number && lent == before && seen, || format!("solve of K {k}, T {t}"));
+        let call = call_with(random, row, k, t, &[]);
+        report.listed(rule, refuses(&call) && seen, || format!("solve of K {k}, T {t}"));
     }
 }
 
 /// More packets than document 01 takes, and just as many: the crate drops those that came before.
 fn many_packets(report: &mut Report, random: &mut Random, k: u32) {
-    let (tables, block) = (published(), Block::new(random, k, 1));
+    let block = Block::new(random, k, 1);
     for n in [65535, 65536] {
         let packets: Vec<EncodingPacket> = block.packets.iter().cycle().take(n).cloned().collect();
-        let (esis, symbols) = apart(&packets);
-        let came = Arrived { count: k, t: 1, esis: &esis, symbols: &symbols };
-        let before = stores(random, block.row, k, 1, n);
-        let mut lent = before.clone();
-        let code = archive::solve(block.row, &tables, came, &mut lent);
+        let call = call_with(random, block.row, k, 1, &packets);
         let decoded = block.decoded(packets) == Some(Some(block.data.clone()));
         let said = || format!("{n} packets of a block of {k}");
-        match refusal(&[(9, n > 65535)]) {
-            Some(number) => report.listed("D33 (65,536 arrivals)", code == number && lent == before && decoded, said),
-            None => report.equal(code == 0 && lent.out.starts_with(&block.set) && decoded, said),
+        if refused_by(&call).is_some() {
+            report.listed("D33 (65,536 arrivals)", refuses(&call) && decoded, said);
+        } else {
+            let (code, after) = called(&call);
+            report.equal(code == 0 && after.lent.out.starts_with(&block.set) && decoded, said);
         }
     }
 }
@@ -391,19 +400,15 @@ fn other_length(report: &mut Report, random: &mut Random) {
     let mut packets = if random.below(2) == 0 { block.packets[..n].to_vec() } else { some(random, block.packets.clone(), n) };
     let (at, longer) = (random.below(n as u64) as usize, random.below(2) == 0);
     packets[at] = changed(&packets[at], |symbol| symbol.resize(usize::from(t) + usize::from(longer) * 2 - 1, 7));
-    let (esis, symbols) = apart(&packets);
-    let came = Arrived { count: k, t, esis: &esis, symbols: &symbols };
-    let before = stores(random, block.row, k, t, n);
-    let mut lent = before.clone();
-    let code = archive::solve(block.row, &published(), came, &mut lent);
-    let all_source = esis.iter().filter(|e| **e < k).count() == k as usize;
+    let call = call_with(random, block.row, k, t, &packets);
+    let all_source = call.esis.iter().filter(|e| **e < k).count() == k as usize;
     let expected = match n < k as usize {
         true => Some(None),
-        false => (all_source && (longer || esis[at] >= k)).then(|| Some(block.data.clone())),
+        false => (all_source && (longer || call.esis[at] >= k)).then(|| Some(block.data.clone())),
     };
     let seen = block.decoded(packets) == expected;
-    let said = || format!("a block of {k}, T {t}, ESIs {esis:?}, symbol {at} longer: {longer}");
-    report.listed("D35 (a symbol of another length)", code == 10 && lent == before && seen, said);
+    let said = || format!("a block of {k}, T {t}, ESIs {:?}, symbol {at} longer: {longer}", call.esis);
+    report.listed("D35 (a symbol of another length)", refuses(&call) && seen, said);
 }
 
 pub fn run(count: u64, seed: u64) -> Found {
