@@ -99,8 +99,10 @@ impl Report {
         self.computed(same, input);
     }
 
-    /// Prints the area's row of the table.
+    /// Prints the area's row of the table. A number that the paper does not have is a fault of the area.
     pub fn close(self) -> Found {
+        let paper = include_str!("../../docs/DIFFERENCES.md");
+        self.found.listed.keys().for_each(|number| assert!(paper.contains(&format!("- **D{number}, ")), "D{number} is not in docs/DIFFERENCES.md"));
         self.found.row(self.area);
         self.found
     }

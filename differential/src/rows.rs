@@ -34,7 +34,8 @@ pub fn published() -> Vec<Row> {
     constants::SYSTEMATIC_INDICES_AND_PARAMETERS.iter().map(|&(k, j, s, h, w)| [k, j, s, h, w]).collect()
 }
 
-/// K, T and the row of blocks that are refused whatever came: of no source symbols, of more than any row has, of symbols of no octets. The rule is that of the crate's answer.
+/// K, T and the row of blocks that are refused whatever came: of no source symbols, of more than any row has, of symbols of no octets; and the rule of
+/// what the crate does with them.
 pub fn refused_blocks() -> [(u32, u16, Row, &'static str); 3] {
     let (first, last) = (published()[0], published()[476]);
     let outside = "D32 (K of 0, or above 56,403)";
