@@ -2,15 +2,34 @@
 use differential::archive::{self, Answer, Row};
 use differential::report::{Found, Report};
 use differential::rows::{self, sizes};
-use differential::{Random, caught, places};
+use differential::{Lent, Random, caught, places, refusal, system};
 use raptorq_lent::constraint_matrix::{self as theirs, enc_indices};
 use raptorq_lent::matrix::DenseBinaryMatrix;
 use raptorq_lent::rng::lent as tables_lent;
 use raptorq_lent::systematic_constants::lent as row_lent;
 
-/// What document 01 says a tuple has to be.
-fn in_bounds([d, a, b, d1, a1, b1]: [u32; 6], w: u32, p1: u32) -> bool {
-    (1..=30).contains(&d) && d <= w - 2 && (1..w).contains(&a) && b < w && (2..=3).contains(&d1) && (1..p1).contains(&a1) && b1 < p1
+const BROKEN_ROW: &str = "D24 (a row that breaks its rules)";
+
+/// What the crate asserts of a tuple.
+fn asserted([d, a, b, d1, a1, b1]: [u32; 6], w: u32, p1: u32) -> bool {
+    d > 0 && (1..w).contains(&a) && b < w && (2..=3).contains(&d1) && (1..p1).contains(&a1) && b1 < p1
+}
+
+/// What document 01 says a tuple has to be, W and P1 being those of an accepted row.
+fn in_bounds(tuple: [u32; 6], w: u32, p1: u32) -> bool {
+    asserted(tuple, w, p1) && tuple[0] <= 30 && tuple[0] + 2 <= w
+}
+
+/// A tuple around the bounds of its row.
+fn any_tuple(random: &mut Random, w: u32, p1: u32) -> [u32; 6] {
+    let near = |random: &mut Random, n: u32| random.near(n as usize) as u32;
+    let d = match random.below(4) {
+        0 => 28 + near(random, 6),
+        1 => near(random, 5) + w.min(100).saturating_sub(5),
+        _ => near(random, w.min(32)),
+    };
+    let d1 = if random.below(12) == 0 { near(random, 4) } else { 2 + random.below(2) as u32 };
+    [d, near(random, w), near(random, w), d1, near(random, p1), near(random, p1)]
 }
 
 /// Our walk into a list with this room.
@@ -18,103 +37,111 @@ fn walk(row: Row, tuple: [u32; 6], room: usize) -> Answer<Vec<u32>> {
     places(room, |list| archive::enc_indices(row, tuple, list).map(|()| (tuple[0] + tuple[3]) as usize))
 }
 
-fn walks(report: &mut Report, random: &mut Random, count: u64) {
-    for _ in 0..count {
-        let row = if random.below(4) == 0 { rows::published()[random.below(300) as usize] } else { rows::made_up(random) };
-        let any = |random: &mut Random, n: u32| random.below(u64::from(n) + 2) as u32;
-        let Some([_, p, _, p1]) = sizes(row) else {
-            report.case(walk(row, [1, 1, 0, 2, 1, 0], 40) == Err(4), || format!("walk of a bad row {row:?}"));
-            continue;
-        };
-        let w = row[4];
-        let d = [any(random, 30), any(random, 5)][random.below(2) as usize];
-        let tuple = [d, any(random, w), any(random, w), random.below(5) as u32, any(random, p1), any(random, p1)];
-        let room = if random.below(5) == 0 { random.below(34) as usize } else { 33 + random.below(3) as usize };
-        let said = || format!("walk of {tuple:?} in {row:?}, room {room}");
-        let ours = walk(row, tuple, room);
-        if !in_bounds(tuple, w, p1) {
-            report.case(ours == Err(2), said);
-        } else if room < (tuple[0] + tuple[3]) as usize {
-            report.case(ours == Err(8), said);
-        } else {
-            let [d, a, b, d1, a1, b1] = tuple;
-            let mut places = vec![];
-            let walked = caught(|| enc_indices((d, a, b, d1, a1, b1), w, p, p1, |j| places.push(j as u32)));
-            report.case(walked.is_some() && ours == Ok(places), said);
-        }
+fn walks(report: &mut Report, random: &mut Random) {
+    let row = match random.below(4) {
+        0 => rows::published()[random.below(300) as usize],
+        1 => rows::made_up(random),
+        _ => rows::accepted(random),
+    };
+    let w = row[4];
+    // A row with more LT symbols than intermediate ones has no P to hand the crate.
+    let numbers = rows::pi_sizes(row);
+    let [p, p1] = numbers.unwrap_or([0, 2]);
+    let tuple = any_tuple(random, w, p1);
+    let [d, a, b, d1, a1, b1] = tuple;
+    let room = random.room((d + d1) as usize);
+    let ours = walk(row, tuple, room);
+    let said = || format!("walk of {tuple:?} in {row:?}, room {room}");
+    let refused = refusal(&[(4, sizes(row).is_none()), (2, !in_bounds(tuple, w, p1)), (8, room < (d + d1) as usize)]);
+    // With P = 0 the crate's walk would not end; its closure needs no room.
+    if numbers.is_none() || p == 0 || refused == Some(8) {
+        return report.refusal(refused.is_some() && ours.err() == refused, said);
+    }
+    let mut places = vec![];
+    let given = caught(|| enc_indices((d, a, b, d1, a1, b1), w, p, p1, |j| places.push(j as u32))).map(|()| places);
+    let right = |places: &Vec<u32>| *places == rows::walk(tuple, w, p, p1);
+    match refused {
+        Some(4) => report.listed(BROKEN_ROW, ours == Err(4) && given.as_ref().is_none_or(right), said),
+        Some(n) if asserted(tuple, w, p1) => report.listed("D26 (a degree above its bounds)", ours == Err(n) && given.as_ref().is_some_and(right), said),
+        Some(n) => report.listed("D25 (a tuple that the crate asserts against)", ours == Err(n) && given.is_none(), said),
+        None => report.equal(given.is_some() && ours.ok() == given, said),
     }
 }
 
-/// The crate's answers for a row, with its own look-ups turned to it.
-fn lend(row: Row, tables: &[u32]) -> [u32; 4] {
-    let found = sizes(row).expect("an accepted row");
-    row_lent::lend(Some([row[0], row[1], row[2], row[3], row[4], found[3]]));
+/// Turns the crate's look-ups to these tables, and to a row that it can use.
+fn lend(row: Row, tables: &[u32]) {
+    row_lent::lend(sizes(row).map(|[_, _, _, p1]| [row[0], row[1], row[2], row[3], row[4], p1]));
     tables_lent::lend(Some(tables.to_vec()));
-    found
 }
 
 fn hdpc(report: &mut Report, random: &mut Random, row: Row, tables: &[u32]) {
-    let [l, _, _, _] = lend(row, tables);
+    lend(row, tables);
     let [k, _, s, h, _] = row.map(|n| n as usize);
-    let matrix = theirs::generate_hdpc_rows(k, s, h);
-    let expected: Vec<u8> = (0..h).flat_map(|i| (0..l as usize).map(move |j| (i, j))).map(|(i, j)| matrix.get(i, j).byte()).collect();
-    let mut store = random.bytes(expected.len() + 3);
-    let before = store.clone();
-    let answer = archive::hdpc_rows(row, tables, &mut store);
-    report.case(answer == Ok(()) && store[..expected.len()] == expected && store[expected.len()..] == before[expected.len()..], || {
-        format!("HDPC rows of {row:?}")
+    let l = k + s + h;
+    let (room, lent_tables) = (random.room(h * l), rows::lent_tables(random, tables));
+    let lent = Lent::to(random.bytes(room), |store| archive::hdpc_rows(row, &lent_tables, store));
+    let given = caught(|| {
+        let matrix = theirs::generate_hdpc_rows(k, s, h);
+        (0..h * l).map(|at| matrix.get(at / l, at % l).byte()).collect::<Vec<u8>>()
     });
-    let mut short = before[..expected.len() - 1].to_vec();
-    report.case(archive::hdpc_rows(row, tables, &mut short) == Err(8) && short == before[..expected.len() - 1], || format!("HDPC rows of {row:?}, short"));
-    report.case(archive::hdpc_rows(row, &tables[1..], &mut short) == Err(5), || "HDPC rows with 1023 numbers".into());
-}
-
-/// The words of the row of an ISI, from the harness's own tuple and the crate's walk.
-fn row_words(row: Row, tables: &[u32], x: u32) -> Vec<u64> {
-    let [l, p, _, p1] = sizes(row).unwrap();
-    let [d, a, b, d1, a1, b1] = rows::tuple(row, p1, tables, x);
-    let mut words = vec![0; (l as usize).div_ceil(64)];
-    enc_indices((d, a, b, d1, a1, b1), row[4], p, p1, |j| words[j / 64] |= 1u64 << (j % 64));
-    words
-}
-
-/// Both builders on these ids, every word of every row.
-fn builders(report: &mut Report, random: &mut Random, row: Row, tables: &[u32], ids: &[u32]) {
-    let [l, _, _, _] = lend(row, tables);
-    let [k, _, s, h, _] = row.map(|n| n as usize);
-    for with_hdpc in [true, false] {
-        let height = s + ids.len() + if with_hdpc { h } else { 0 };
-        let wide = (l as usize).div_ceil(64);
-        let used = height * wide;
-        let mut words: Vec<u64> = (0..used + 2).map(|_| random.word()).collect();
-        let before = words.clone();
-        let call = if with_hdpc { archive::constraint_matrix } else { archive::constraint_matrix_no_hdpc };
-        let answer = call(row, tables, ids, &mut words);
-        let said = || format!("builder of {row:?} with {} ids, HDPC {with_hdpc}", ids.len());
-        let least = if with_hdpc { k } else { k + h };
-        if ids.len() < least {
-            report.case(answer == Err(9) && words == before, said);
-            continue;
+    let said = || format!("HDPC rows of {row:?} with {} numbers, room {room}", lent_tables.len());
+    match refusal(&[(4, sizes(row).is_none()), (5, lent_tables.len() != 1024), (8, room < h * l)]) {
+        Some(4) => {
+            let right = |octets: Vec<u8>| octets == system::hdpc(row.map(|n| n as usize), tables).concat();
+            report.listed(BROKEN_ROW, lent.refused(4) && given.is_none_or(right), said);
         }
-        let given = caught(|| {
-            if with_hdpc {
-                theirs::generate_constraint_matrix::<DenseBinaryMatrix>(row[0], ids).0
-            } else {
-                theirs::generate_constraint_matrix_no_hdpc::<DenseBinaryMatrix>(row[0], ids)
-            }
-        });
-        match given {
-            Some(m) => report.case(answer == Ok(()) && words[..used] == m.elements[..used] && words[used..] == before[used..], said),
-            // The crate's rand overflowed at one of the ids: each encoding row is held to the walk of the harness's own tuple.
-            None => {
-                let first = s + if with_hdpc { h } else { 0 };
-                let same = ids.iter().enumerate().all(|(i, x)| row_words(row, tables, *x) == words[(first + i) * wide..][..wide]);
-                report.listed("D11 (rand overflows)", answer == Ok(()) && same && words[used..] == before[used..], said)
-            }
-        }
-        let mut short = before[..used - 1].to_vec();
-        report.case(call(row, tables, ids, &mut short) == Err(8) && short == before[..used - 1], said);
+        Some(n) => report.refusal(lent.refused(n), said),
+        None => report.equal(given.is_some_and(|octets| lent.holds(&octets)), said),
     }
+}
+
+/// That the rows from `first` on are those of these ISIs, from the harness's own tuple and walk.
+fn encodes(words: &[u64], first: usize, row: Row, tables: &[u32], ids: &[u32]) -> bool {
+    let [l, p, _, p1] = sizes(row).expect("an accepted row");
+    let wide = (l as usize).div_ceil(64);
+    ids.iter().zip(words[first * wide..].chunks(wide)).all(|(x, found)| {
+        let mut right = vec![0; wide];
+        rows::walk(rows::tuple(row, p1, tables, *x), row[4], p, p1).into_iter().for_each(|j| right[j as usize / 64] |= 1u64 << (j % 64));
+        found == right
+    })
+}
+
+/// A builder on these ids, every word of every row.
+fn builder(report: &mut Report, random: &mut Random, row: Row, tables: &[u32], ids: &[u32], with_hdpc: bool) {
+    lend(row, tables);
+    let [k, _, s, h, _] = row.map(|n| n as usize);
+    let call = if with_hdpc { archive::constraint_matrix } else { archive::constraint_matrix_no_hdpc };
+    let (zero_rows, least) = if with_hdpc { (h, k) } else { (0, k + h) };
+    let first = s + zero_rows;
+    let used = (first + ids.len()) * (k + s + h).div_ceil(64);
+    let (few, many) = (ids.len() < least, ids.len() > 65535);
+    let room = if few || many { random.below(9) as usize } else { random.room(used) };
+    let lent_tables = rows::lent_tables(random, tables);
+    let lent = Lent::to(random.words(room), |words| call(row, &lent_tables, ids, words));
+    let said = || format!("builder of {row:?} with {} ids, HDPC {with_hdpc}, {} numbers, room {room}", ids.len(), lent_tables.len());
+    let refused = refusal(&[(4, sizes(row).is_none()), (5, lent_tables.len() != 1024), (9, few), (9, many), (8, room < used)]);
+    if let Some(n @ (4 | 5 | 8)) = refused {
+        return report.refusal(lent.refused(n), said);
+    }
+    let given = caught(|| match with_hdpc {
+        true => theirs::generate_constraint_matrix::<DenseBinaryMatrix>(row[0], ids).0.elements,
+        false => theirs::generate_constraint_matrix_no_hdpc::<DenseBinaryMatrix>(row[0], ids).elements,
+    });
+    match (refused, given) {
+        (Some(n), given) if few => report.listed("D30 (too few ids)", lent.refused(n) && given.is_none(), said),
+        (Some(n), given) => report.listed("D31 (65,536 ids)", lent.refused(n) && given.is_some_and(|words| encodes(&words, first, row, tables, ids)), said),
+        (None, Some(words)) => report.equal(lent.holds(&words[..used]), said),
+        // The crate's rand overflowed at one of the ids.
+        (None, None) => {
+            let same = lent.answer == Ok(()) && lent.after[used..] == lent.before[used..];
+            report.listed("D11 (rand overflows)", same && encodes(&lent.after, first, row, tables, ids), said);
+        }
+    }
+}
+
+fn builders(report: &mut Report, random: &mut Random, row: Row, tables: &[u32], ids: &[u32]) {
+    builder(report, random, row, tables, ids, true);
+    builder(report, random, row, tables, ids, false);
 }
 
 fn published(report: &mut Report, random: &mut Random) {
@@ -130,25 +157,38 @@ fn published(report: &mut Report, random: &mut Random) {
         builders(report, random, row, &tables, &ids);
         builders(report, random, row, &tables, &ids[..row[0] as usize - 1]);
     }
-}
-
-fn made_up(report: &mut Report, random: &mut Random, count: u64) {
-    for _ in 0..count {
-        let row = rows::accepted(random);
-        let tables = rows::any_tables(random);
-        hdpc(report, random, row, &tables);
-        let n = row[0] + random.below(u64::from(row[3]) + 5) as u32;
-        let ids: Vec<u32> = (0..n).map(|_| random.word() as u32 >> random.below(32)).collect();
-        builders(report, random, row, &tables, &ids);
+    for row in &all[..8] {
+        let ids: Vec<u32> = (0..65536).collect();
+        builders(report, random, *row, &tables, &ids[1..]);
+        builders(report, random, *row, &tables, &ids);
     }
 }
 
+fn made_up(report: &mut Report, random: &mut Random) {
+    let tables = rows::any_tables(random);
+    let row = rows::accepted(random);
+    hdpc(report, random, row, &tables);
+    let n = (row[0] + random.below(u64::from(row[3]) + 5) as u32).saturating_sub(random.below(3) as u32);
+    let mut ids: Vec<u32> = (0..n).map(|_| random.word() as u32 >> random.below(32)).collect();
+    builders(report, random, row, &tables, &ids);
+    // Here the crate's rand overflows.
+    ids.push(u32::MAX - random.below(3) as u32);
+    builders(report, random, row, &tables, &ids);
+    let broken = rows::broken(random);
+    hdpc(report, random, broken, &tables);
+    builders(report, random, broken, &tables, &ids);
+}
+
 pub fn run(count: u64, seed: u64) -> Found {
-    let mut report = Report::new("constraints");
+    let mut report = Report::new("constraints", seed);
     let mut random = Random::new(seed);
-    walks(&mut report, &mut random, count / 2);
+    for _ in 0..count / 2 {
+        walks(&mut report, &mut random);
+    }
     published(&mut report, &mut random);
-    made_up(&mut report, &mut random, count / 500);
+    for _ in 0..count / 500 {
+        made_up(&mut report, &mut random);
+    }
     row_lent::lend(None);
     tables_lent::lend(None);
     report.close()

@@ -1,57 +1,80 @@
-//! The encoding of one symbol: blocks that the crate encoded, and made-up rows and intermediates against the crate's walk.
-use differential::archive;
+//! The encoding of one symbol: blocks that the crate encoded, and made-up rows and intermediates against the crate's tuple and walk.
+use differential::archive::{self, Row};
 use differential::report::{Found, Report};
 use differential::rows::{self, sizes};
-use differential::{Random, caught};
+use differential::{Lent, Random, caught, refusal};
 use raptorq::{ObjectTransmissionInformation, SourceBlockEncoder};
+use raptorq_lent::base::{self, PayloadId};
 use raptorq_lent::constraint_matrix::enc_indices;
-use raptorq_lent::{base, rng};
+use raptorq_lent::rng;
 
-/// The crate's tuple and walk, added up here; None where its rand overflows.
-fn walked(row: archive::Row, x: u32, t: usize, intermediates: &[u8]) -> Option<Vec<u8>> {
-    let [_, p, _, p1] = sizes(row).unwrap();
+/// The intermediate symbols of the crate's tuple and walk; None where its rand overflows.
+fn walked(row: Row, x: u32) -> Option<Vec<u32>> {
+    let [_, p, _, p1] = sizes(row)?;
     let tuple = caught(|| base::intermediate_tuple(x, row[4], row[1], p1))?;
+    let mut places = vec![];
+    enc_indices(tuple, row[4], p, p1, |j| places.push(j as u32));
+    Some(places)
+}
+
+/// The same from the harness's own tuple and walk.
+fn walked_here(row: Row, tables: &[u32], x: u32) -> Vec<u32> {
+    let [_, p, _, p1] = sizes(row).expect("an accepted row");
+    rows::walk(rows::tuple(row, p1, tables, x), row[4], p, p1)
+}
+
+/// These intermediate symbols of t octets, added up.
+fn sum(places: &[u32], t: usize, intermediates: &[u8]) -> Vec<u8> {
     let mut symbol = vec![0; t];
-    enc_indices(tuple, row[4], p, p1, |j| symbol.iter_mut().zip(&intermediates[j * t..]).for_each(|(a, b)| *a ^= b));
-    Some(symbol)
+    places.iter().for_each(|j| symbol.iter_mut().zip(&intermediates[*j as usize * t..]).for_each(|(a, b)| *a ^= b));
+    symbol
 }
 
 fn made_up(report: &mut Report, random: &mut Random) {
     let tables = rows::any_tables(random);
     rng::lent::lend(Some(tables.clone()));
-    let row = rows::made_up(random);
+    let row = if random.below(4) == 0 { rows::made_up(random) } else { rows::accepted(random) };
     let t = random.below(40) as u16;
     let l = sizes(row).map_or(10, |s| s[0] as usize);
     let have = (l.min(2000) * usize::from(t)).saturating_sub(usize::from(random.below(12) == 0));
     let intermediates = random.bytes(have);
     for _ in 0..8 {
-        let (count, esi) = (random.near(row[0].min(70000) as usize + 1) as u32, random.word() as u32 >> random.below(32));
-        let room = usize::from(t) + random.below(4) as usize;
-        let mut out = random.bytes(room);
-        out.truncate(out.len().saturating_sub(usize::from(random.below(12) == 0)));
-        let before = out.clone();
-        let answer = archive::encode(row, &tables, count, t, esi, &intermediates, &mut out);
-        let said = || format!("encode {esi} of {count}, T {t}, {row:?}");
-        let refusal = match sizes(row) {
-            None => Some(4),
-            Some(_) if count < 1 || count > row[0] || esi >= 1 << 24 => Some(9),
-            Some(_) if t == 0 => Some(10),
-            Some(_) if have < l * usize::from(t) || out.len() < t.into() => Some(8),
-            _ => None,
-        };
-        if let Some(n) = refusal {
-            report.case(answer == Err(n) && out == before, said);
-            continue;
-        }
-        if let Some(symbol) = walked(row, rows::shifted(row, count, esi), t.into(), &intermediates) {
-            let n = usize::from(t);
-            report.case(answer == Ok(()) && out[..n] == symbol && out[n..] == before[n..], said);
-        }
+        let count = random.near(row[0].min(70000) as usize + 1) as u32;
+        let esi = if random.below(8) == 0 { (1 << 24) - 1 + random.below(3) as u32 } else { random.word() as u32 >> random.below(32) };
+        encode(report, random, (row, &tables), (count, t, esi), &intermediates);
     }
     rng::lent::lend(None);
 }
 
-/// Real blocks: a source symbol of the crate's packets is the encoding of its ESI from the crate's own intermediates.
+/// The symbol of an ESI of a block of `count` source symbols of t octets.
+fn encode(report: &mut Report, random: &mut Random, (row, tables): (Row, &[u32]), (count, t, esi): (u32, u16, u32), intermediates: &[u8]) {
+    let (room, lent_tables) = (random.room(t.into()), rows::lent_tables(random, tables));
+    let lent = Lent::to(random.bytes(room), |out| archive::encode(row, &lent_tables, count, t, esi, intermediates, out));
+    let said = || format!("encode {esi} of {count}, T {t}, {row:?}, {} numbers, {} octets, room {room}", lent_tables.len(), intermediates.len());
+    let short = sizes(row).is_some_and(|[l, ..]| intermediates.len() < l as usize * usize::from(t));
+    let refused = refusal(&[
+        (4, sizes(row).is_none()),
+        (5, lent_tables.len() != 1024),
+        (9, !(1..=row[0]).contains(&count)),
+        (9, esi >= 1 << 24),
+        (10, t == 0),
+        (8, short),
+        (8, room < t.into()),
+    ]);
+    match refused {
+        Some(9) if esi >= 1 << 24 => report.listed("D6 (ESI of 2^24)", lent.refused(9) && caught(|| PayloadId::new(0, esi)).is_none(), said),
+        Some(n) => report.refusal(lent.refused(n), said),
+        None => {
+            let x = rows::shifted(row, count, esi);
+            match walked(row, x) {
+                Some(places) => report.equal(lent.holds(&sum(&places, t.into(), intermediates)), said),
+                None => report.listed("D11 (rand overflows)", lent.holds(&sum(&walked_here(row, tables, x), t.into(), intermediates)), said),
+            }
+        }
+    }
+}
+
+/// Real blocks: a symbol of the crate's packets is the encoding of its ESI from the crate's own intermediates.
 fn real(report: &mut Report, random: &mut Random) {
     let tables = rng::lent::published();
     let (k, t) = (1 + random.below(120) as u32, 16u16);
@@ -63,14 +86,31 @@ fn real(report: &mut Report, random: &mut Random) {
     let intermediates: Vec<u8> = (0..slab.len()).flat_map(|i| slab.get(i).to_vec()).collect();
     for packet in encoder.source_packets().into_iter().chain(encoder.repair_packets(0, 20)) {
         let (id, symbol) = packet.split();
-        let mut out = vec![0; 16];
-        let answer = archive::encode(row, &tables, k, t, id.encoding_symbol_id(), &intermediates, &mut out);
-        report.case(answer == Ok(()) && out == symbol, || format!("symbol {} of a block of {k}", id.encoding_symbol_id()));
+        let lent = Lent::to(vec![0; 16], |out| archive::encode(row, &tables, k, t, id.encoding_symbol_id(), &intermediates, out));
+        report.equal(lent.holds(&symbol), || format!("symbol {} of a block of {k}", id.encoding_symbol_id()));
+    }
+    let last = (1 << 24) - k;
+    let given = caught(|| encoder.repair_packets(last, 1));
+    let lent = Lent::to(vec![0; 16], |out| archive::encode(row, &tables, k, t, 1 << 24, &intermediates, out));
+    report.listed("D6 (ESI of 2^24)", lent.refused(9) && given.is_none(), || format!("symbol 2^24 of a block of {k}"));
+}
+
+/// A call of ours for a symbol of a block that is refused, and the crate's encoder with its bytes.
+fn refused_blocks(report: &mut Report) {
+    let tables = rng::lent::published();
+    for (k, t, row, rule) in rows::refused_blocks() {
+        let config = ObjectTransmissionInformation::new(u64::from(k * u32::from(t)), t, 2, 1, 1);
+        let data = vec![0; k as usize * usize::from(t)];
+        let given = caught(|| SourceBlockEncoder::new(0, &config, &data).repair_packets(0, 1));
+        let seen = if k == 0 { given.is_some_and(|packets| packets[0].data() == [0]) } else { given.is_none() };
+        let lent = Lent::to(vec![7; 16], |out| archive::encode(row, &tables, k, t, 0, &vec![0; 70000], out));
+        let number = refusal(&[(9, !(1..=row[0]).contains(&k)), (10, t == 0)]);
+        report.listed(rule, number.is_some_and(|n| lent.refused(n)) && seen, || format!("encode of K {k}, T {t}"));
     }
 }
 
 pub fn run(count: u64, seed: u64) -> Found {
-    let mut report = Report::new("encoding");
+    let mut report = Report::new("encoding", seed);
     let mut random = Random::new(seed);
     for _ in 0..count / 20 {
         made_up(&mut report, &mut random);
@@ -78,5 +118,6 @@ pub fn run(count: u64, seed: u64) -> Found {
     for _ in 0..count / 5000 {
         real(&mut report, &mut random);
     }
+    refused_blocks(&mut report);
     report.close()
 }

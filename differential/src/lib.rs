@@ -1,7 +1,6 @@
 //! The two sides: our archive (`archive`) and the published crate (`raptorq`), and what a comparison of them needs.
 use archive::Answer;
 use std::cell::Cell;
-use std::fmt::Debug;
 use std::sync::Once;
 
 // The arguments of a call stand together.
@@ -33,47 +32,78 @@ impl Random {
         let past = if self.below(6) == 0 { 2 } else { u64::from(n == 0) };
         self.below(n as u64 + past) as usize
     }
+    /// Room for n and up to two more most times, sometimes for less.
+    pub fn room(&mut self, n: usize) -> usize {
+        if n > 0 && self.below(16) == 0 { self.below(n as u64) as usize } else { n + self.below(3) as usize }
+    }
     pub fn byte(&mut self) -> u8 {
         (self.word() >> 56) as u8
     }
     pub fn bytes(&mut self, n: usize) -> Vec<u8> {
         (0..n).map(|_| self.byte()).collect()
     }
+    pub fn words(&mut self, n: usize) -> Vec<u64> {
+        (0..n).map(|_| self.word()).collect()
+    }
+}
+
+/// Document 01's order where several refusals apply.
+const ORDER: [u32; 10] = [4, 5, 2, 9, 10, 8, 6, 7, 3, 1];
+
+/// The refusal that document 01 gives: each reason is a number of its table, and whether it applies.
+pub fn refusal(reasons: &[(u32, bool)]) -> Option<u32> {
+    ORDER.into_iter().find(|number| reasons.contains(&(*number, true)))
 }
 
 /// What stands in a store where a call should leave it alone.
 const UNTOUCHED: u64 = 0xA5A5_A5A5_A5A5_A5A5;
 
-/// A call that writes past its answer, or that refuses and has written, is a fault of ours: it ends the run.
-fn stays<T: PartialEq + Debug>(rest: &[T], mark: T) {
-    if rest.iter().any(|x| *x != mark) {
-        println!("a call wrote where it should not: {rest:?}");
-        std::process::exit(1);
-    }
+/// In the place of an answer: the call wrote past it, or refused and had written. No refusal has this number.
+const WROTE: u32 = u32::MAX;
+
+/// The first `used` places of a store, if the call left the rest alone.
+fn front<T: PartialEq + Clone>(store: &[T], used: usize, mark: T) -> Answer<Vec<T>> {
+    let alone = store.get(used..).is_some_and(|rest| !rest.is_empty() && rest.iter().all(|x| *x == mark));
+    if alone { Ok(store[..used].to_vec()) } else { Err(WROTE) }
 }
 
-/// The n values that a call answers, given room for them and one place more.
-pub fn values(n: usize, call: impl FnOnce(&mut [u64]) -> Answer<()>) -> Answer<Vec<u64>> {
-    let mut store = vec![UNTOUCHED; n + 2];
-    let answer = call(&mut store[..n + 1]);
-    stays(&store[if answer.is_ok() { n } else { 0 }..], UNTOUCHED);
-    store.truncate(n);
-    answer.map(|()| store)
+/// The n values that a call answers, given this room.
+pub fn values(room: usize, n: usize, call: impl FnOnce(&mut [u64]) -> Answer<()>) -> Answer<Vec<u64>> {
+    let mut store = vec![UNTOUCHED; room + 1];
+    let answer = call(&mut store[..room]);
+    let written = front(&store, if answer.is_ok() { n } else { 0 }, UNTOUCHED)?;
+    answer.map(|()| written)
 }
 
 /// The places that a call puts at the front of a list with this room, of which it answers how many.
 pub fn places(room: usize, call: impl FnOnce(&mut [u32]) -> Answer<usize>) -> Answer<Vec<u32>> {
-    let mark = UNTOUCHED as u32;
-    let mut list = vec![mark; room];
-    let answer = call(&mut list);
-    stays(&list[answer.unwrap_or(0)..], mark);
-    list.truncate(answer.unwrap_or(0));
-    answer.map(|_| list)
+    let mut list = vec![UNTOUCHED as u32; room + 1];
+    let answer = call(&mut list[..room]);
+    let written = front(&list, answer.unwrap_or(0), UNTOUCHED as u32)?;
+    answer.map(|_| written)
 }
 
-/// That a call which needs room for n values refuses by this number, which comes before 8 in the order: with room, and without.
-pub fn refused_untouched(number: u32, n: usize, call: impl Fn(&mut [u64]) -> Answer<()>) -> bool {
-    values(n, &call) == Err(number) && call(&mut []) == Err(number)
+/// A call on a lent store: its answer, and the store before and after.
+pub struct Lent<T> {
+    pub answer: Answer<()>,
+    pub before: Vec<T>,
+    pub after: Vec<T>,
+}
+
+impl<T: Clone + PartialEq> Lent<T> {
+    pub fn to(before: Vec<T>, call: impl FnOnce(&mut [T]) -> Answer<()>) -> Lent<T> {
+        let mut after = before.clone();
+        let answer = call(&mut after);
+        Lent { answer, before, after }
+    }
+    /// Refused by this number, and nothing has changed.
+    pub fn refused(&self, number: u32) -> bool {
+        self.answer == Err(number) && self.after == self.before
+    }
+    /// Done: these are at the front, and all else is as it was.
+    pub fn holds(&self, front: &[T]) -> bool {
+        self.answer == Ok(()) && self.after.starts_with(front) && self.after[front.len()..] == self.before[front.len()..]
+    }
 }
 
 std::thread_local! { static CAUGHT: Cell<bool> = const { Cell::new(false) }; }

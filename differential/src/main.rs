@@ -39,7 +39,7 @@ fn main() {
     Found::head();
     let all = chosen.iter().fold(Found::default(), |sum, (_, run)| sum.with(run(count, seed)));
     if chosen.len() > 1 {
-        all.row("all", "");
+        all.row("all");
     }
     std::process::exit(if all.differences == 0 { 0 } else { 1 });
 }

@@ -195,7 +195,7 @@ fn hindered(report: &mut Report, program: &Program, d: &[u8]) {
 }
 
 pub fn run(count: u64, seed: u64) -> Found {
-    let mut report = Report::new("receive");
+    let mut report = Report::new("receive", seed);
     let mut random = Random::new(seed);
     let program = Program::new();
     // The object that words could be taken for, with every packet.

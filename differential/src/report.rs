@@ -1,79 +1,163 @@
-//! What an area found: how many cases, how many differences, and how many cases a named rule set apart.
+//! What an area found: how many cases, how each was held, and where the input of each difference is.
 use crate::Random;
+use crate::archive::Answer;
 use std::collections::BTreeMap;
+use std::io::Write;
 
-pub struct Report {
-    area: &'static str,
-    cases: u64,
-    differences: u64,
-    /// Cases that a rule of docs/DIFFERENCES.md names, where the two sides are known to differ and were seen to.
-    named: BTreeMap<&'static str, u64>,
+/// What an area, or all of them, came to: each case is a difference, or was held in one of the four ways that follow.
+#[derive(Default)]
+pub struct Found {
+    pub cases: u64,
+    pub differences: u64,
+    /// The crate was asked, and gives the same.
+    equal: u64,
+    /// The two differ as docs/DIFFERENCES.md says, by its number.
+    listed: BTreeMap<u32, u64>,
+    /// Refused here, and the crate cannot be asked.
+    refusals: u64,
+    /// Answered here, and the crate cannot be asked.
+    computed: u64,
     /// How many cases were of which kind, where an area tells.
     kinds: BTreeMap<&'static str, u64>,
 }
 
+pub struct Report {
+    area: &'static str,
+    seed: u64,
+    found: Found,
+}
+
 impl Report {
-    pub fn new(area: &'static str) -> Report {
-        Report { area, cases: 0, differences: 0, named: BTreeMap::new(), kinds: BTreeMap::new() }
+    pub fn new(area: &'static str, seed: u64) -> Report {
+        Report { area, seed, found: Found::default() }
     }
 
-    /// One case: the same on both sides, or a difference whose input is printed (the first twenty).
-    pub fn case(&mut self, same: bool, input: impl FnOnce() -> String) {
-        self.cases += 1;
-        if !same {
-            self.differences += 1;
-            if self.differences <= 20 {
-                println!("{}: differs at {}", self.area, input());
-            }
+    /// One case: as it should be, and then counted where `held` says, or a difference, of which the first twenty are told.
+    fn case(&mut self, same: bool, input: impl FnOnce() -> String, held: impl FnOnce(&mut Found)) {
+        self.found.cases += 1;
+        if same {
+            return held(&mut self.found);
+        }
+        self.found.differences += 1;
+        if self.found.differences <= 20 {
+            self.tell(input());
         }
     }
 
-    /// One case of a difference that docs/DIFFERENCES.md lists under this name: `as_listed` says that both sides did what is written there.
+    /// One line: where the difference can be met again, and its input, or the file that has it.
+    fn tell(&self, input: String) {
+        let number = self.found.cases;
+        let shown = if input.len() <= 160 { input } else { format!("input in {}", keep(self.area, self.seed, number, input.as_bytes())) };
+        line(&format!("{}: differs, seed {}, number {number}: {shown}", self.area, self.seed));
+    }
+
+    /// The crate was asked, and has to give the same.
+    pub fn equal(&mut self, same: bool, input: impl FnOnce() -> String) {
+        self.case(same, input, |found| found.equal += 1);
+    }
+
+    /// A difference that docs/DIFFERENCES.md lists under this name: `as_listed` says that both sides did what is written there.
     pub fn listed(&mut self, rule: &'static str, as_listed: bool, input: impl FnOnce() -> String) {
-        *self.named.entry(rule).or_insert(0) += 1;
-        self.case(as_listed, input);
+        let number = rule[1..].split(' ').next().and_then(|n| n.parse().ok()).expect("D and a number");
+        self.case(as_listed, input, |found| *found.listed.entry(number).or_insert(0) += 1);
     }
 
-    /// One case of a kind that the area's line counts.
+    /// A refusal where the crate cannot be asked, since it has no such call or no such argument: document 01 alone says the number.
+    pub fn refusal(&mut self, as_told: bool, input: impl FnOnce() -> String) {
+        self.case(as_told, input, |found| found.refusals += 1);
+    }
+
+    /// An answer where the crate cannot be asked: the harness has computed it by itself.
+    pub fn computed(&mut self, same: bool, input: impl FnOnce() -> String) {
+        self.case(same, input, |found| found.computed += 1);
+    }
+
+    /// A call that one number refuses where the crate panics as listed, another where the crate cannot be asked, and that else gives what the crate gives.
+    pub fn asked<V: PartialEq>(
+        &mut self,
+        refused: Option<u32>,
+        (number, rule): (u32, &'static str),
+        ours: Answer<V>,
+        given: Option<V>,
+        input: impl FnOnce() -> String,
+    ) {
+        match refused {
+            Some(n) if n == number => self.listed(rule, ours == Err(n) && given.is_none(), input),
+            Some(n) => self.refusal(ours == Err(n), input),
+            None => self.equal(given.is_some() && ours.ok() == given, input),
+        }
+    }
+
+    /// The case that follows, or went before, is of a kind that the area's row counts.
+    pub fn kind(&mut self, kind: &'static str) {
+        *self.found.kinds.entry(kind).or_insert(0) += 1;
+    }
+
+    /// A computed case of a kind.
     pub fn of(&mut self, kind: &'static str, same: bool, input: impl FnOnce() -> String) {
-        *self.kinds.entry(kind).or_insert(0) += 1;
-        self.case(same, input);
+        self.kind(kind);
+        self.computed(same, input);
     }
 
-    /// Prints the area's row of the table.
+    /// Prints the area's row of the table. A number that the paper does not have is a fault of the area.
     pub fn close(self) -> Found {
-        let kinds = self.kinds.iter().map(|(kind, count)| format!("{count} {kind}"));
-        let rules = self.named.iter().map(|(rule, count)| format!("{count} as {rule}"));
-        let found = Found { cases: self.cases, differences: self.differences };
-        found.row(self.area, &kinds.chain(rules).collect::<Vec<_>>().join("; "));
-        found
+        let paper = include_str!("../../docs/DIFFERENCES.md");
+        self.found.listed.keys().for_each(|number| assert!(paper.contains(&format!("- **D{number}, ")), "D{number} is not in docs/DIFFERENCES.md"));
+        self.found.row(self.area);
+        self.found
     }
-}
-
-/// What an area, or all of them, came to.
-#[derive(Clone, Copy, Default)]
-pub struct Found {
-    pub cases: u64,
-    pub differences: u64,
 }
 
 impl Found {
     pub fn head() {
-        println!("{:<12} {:>10} {:>12}  of these", "area", "cases", "differences");
+        line("equal     the crate gives the same");
+        line("listed    the two differ as docs/DIFFERENCES.md says, by its numbers below");
+        line("refusals  refused here, and the crate cannot be asked: held to document 01 alone");
+        line("computed  answered here, and the crate cannot be asked: held to the harness's own computation");
+        line(&format!("\n{:<12} {:>10} {:>11} {:>10} {:>10} {:>10} {:>10}", "area", "cases", "differences", "equal", "listed", "refusals", "computed"));
     }
 
-    pub fn row(self, area: &str, of_these: &str) {
-        println!("{}", format!("{area:<12} {:>10} {:>12}  {of_these}", self.cases, self.differences).trim_end());
+    pub fn row(&self, area: &str) {
+        let Found { cases, differences, equal, listed, refusals, computed, kinds } = self;
+        let all_listed: u64 = listed.values().sum();
+        line(&format!("{area:<12} {cases:>10} {differences:>11} {equal:>10} {all_listed:>10} {refusals:>10} {computed:>10}"));
+        let numbers = listed.iter().map(|(number, count)| format!("D{number} {count}"));
+        let parts: Vec<String> = numbers.chain(kinds.iter().map(|(kind, count)| format!("{count} {kind}"))).collect();
+        if !parts.is_empty() {
+            line(&format!("{:<12} {}", "", parts.join(", ")));
+        }
     }
 
-    pub fn with(self, other: Found) -> Found {
-        Found { cases: self.cases + other.cases, differences: self.differences + other.differences }
+    pub fn with(mut self, other: Found) -> Found {
+        self.cases += other.cases;
+        self.differences += other.differences;
+        self.equal += other.equal;
+        self.refusals += other.refusals;
+        self.computed += other.computed;
+        other.listed.into_iter().for_each(|(number, count)| *self.listed.entry(number).or_insert(0) += count);
+        other.kinds.into_iter().for_each(|(kind, count)| *self.kinds.entry(kind).or_insert(0) += count);
+        self
+    }
+}
+
+/// A line of what a run has to say; a reader who has gone away is no fault.
+fn line(words: &str) {
+    let _ = writeln!(std::io::stdout(), "{words}");
+}
+
+/// Keeps the input of a difference in a file under target/ and gives its path.
+pub fn keep(area: &str, seed: u64, number: u64, bytes: &[u8]) -> String {
+    let folder = concat!(env!("CARGO_MANIFEST_DIR"), "/target/differences");
+    let path = format!("{folder}/{area}-{seed}-{number}");
+    match std::fs::create_dir_all(folder).and_then(|()| std::fs::write(&path, bytes)) {
+        Ok(()) => path,
+        Err(fault) => format!("{path}, which could not be written ({fault})"),
     }
 }
 
 /// An area of two kinds of cases: `count` of the first, a twentieth as many of the second.
 pub fn area(name: &'static str, count: u64, seed: u64, first: fn(&mut Report, &mut Random), second: fn(&mut Report, &mut Random)) -> Found {
-    let mut report = Report::new(name);
+    let mut report = Report::new(name, seed);
     let mut random = Random::new(seed);
     for _ in 0..count {
         first(&mut report, &mut random);

@@ -2,9 +2,16 @@
 use crate::Random;
 use crate::archive::Row;
 use raptorq::systematic_constants as constants;
+use std::borrow::Cow;
 
 fn is_prime(n: u32) -> bool {
-    n >= 2 && (2..).take_while(|d| d * d <= n).all(|d| n % d != 0)
+    n >= 2 && (2..).take_while(|d: &u64| d * d <= n.into()).all(|d| u64::from(n) % d != 0)
+}
+
+/// P and P1 of any row that has them, whether or not it keeps the rules.
+pub fn pi_sizes([k, _, s, h, w]: Row) -> Option<[u32; 2]> {
+    let p = k.checked_add(s)?.checked_add(h)?.checked_sub(w)?;
+    Some([p, (p..=u32::MAX).find(|n| is_prime(*n))?])
 }
 
 /// L, P, B and P1 of a row that keeps the rules.
@@ -19,15 +26,20 @@ pub fn sizes([k, j, s, h, w]: Row) -> Option<[u32; 4]> {
         && k + s + h >= w + 3
         && (w - s).div_ceil(s) < s
         && k + s + h <= 65535;
-    fits.then(|| {
-        let p = k + s + h - w;
-        [k + s + h, p, w - s, (p..).find(|n| is_prime(*n)).unwrap()]
-    })
+    fits.then(|| pi_sizes([k, j, s, h, w]).map(|[p, p1]| [k + s + h, p, w - s, p1])).flatten()
 }
 
 /// The 477 rows of RFC 6330, Table 2, as the crate has them.
 pub fn published() -> Vec<Row> {
     constants::SYSTEMATIC_INDICES_AND_PARAMETERS.iter().map(|&(k, j, s, h, w)| [k, j, s, h, w]).collect()
+}
+
+/// K, T and the row of blocks that are refused whatever came: of no source symbols, of more than any row has, of symbols of no octets; and the rule of
+/// what the crate does with them.
+pub fn refused_blocks() -> [(u32, u16, Row, &'static str); 3] {
+    let (first, last) = (published()[0], published()[476]);
+    let outside = "D32 (K of 0, or above 56,403)";
+    [(0, 1, first, outside), (56404, 1, last, outside), (10, 0, first, "D34 (symbol size 0)")]
 }
 
 /// What the crate gives for a published row.
@@ -72,9 +84,32 @@ pub fn accepted_of(random: &mut Random, many: [u64; 3]) -> Row {
     }
 }
 
+/// A small row of which one number breaks a rule.
+pub fn broken(random: &mut Random) -> Row {
+    loop {
+        let mut row = accepted_of(random, [45, 6, 12]);
+        let small = [random.below(4), random.below(100), 250 + random.below(60)][random.below(3) as usize];
+        let at = random.below(5) as usize;
+        row[at] = if at == 1 { 65536 } else { small as u32 };
+        if sizes(row).is_none() {
+            return row;
+        }
+    }
+}
+
 /// Random tables of any numbers.
 pub fn any_tables(random: &mut Random) -> Vec<u32> {
     (0..1024).map(|_| random.word() as u32).collect()
+}
+
+/// The tables as they are most times, sometimes of another length.
+pub fn lent_tables<'a>(random: &mut Random, tables: &'a [u32]) -> Cow<'a, [u32]> {
+    if random.below(16) != 0 {
+        return tables.into();
+    }
+    let mut other = tables.to_vec();
+    other.resize([0, 1023, 1025][random.below(3) as usize], 7);
+    other.into()
 }
 
 /// The ISI of an ESI in a block of `count` source symbols, as the crate's decoder shifts it: from there on the padding symbols come in between.
@@ -101,4 +136,22 @@ pub fn tuple([_, j, _, _, w]: Row, p1: u32, tables: &[u32], x: u32) -> [u32; 6] 
     let d = raptorq::base::deg(rand(tables, y, 0, 1 << 20), w);
     let d1 = if d < 4 { 2 + rand(tables, x, 3, 2) } else { 2 };
     [d, 1 + rand(tables, y, 1, w - 1), rand(tables, y, 2, w), d1, 1 + rand(tables, x, 4, p1 - 1), rand(tables, x, 5, p1)]
+}
+
+/// 5.3.5.3: the intermediate symbols that Enc adds up for a tuple, in its order.
+pub fn walk([d, a, b, d1, a1, b1]: [u32; 6], w: u32, p: u32, p1: u32) -> Vec<u32> {
+    let [a, mut b, a1, mut b1, w, p, p1] = [a, b, a1, b1, w, p, p1].map(u64::from);
+    let mut places = vec![];
+    for _ in 0..d {
+        places.push(b as u32);
+        b = (b + a) % w;
+    }
+    for _ in 0..d1 {
+        while b1 >= p {
+            b1 = (b1 + a1) % p1;
+        }
+        places.push((w + b1) as u32);
+        b1 = (b1 + a1) % p1;
+    }
+    places
 }

@@ -1,37 +1,63 @@
 //! The symbol slab: random sequences of operations on both sides, the whole memory compared after each.
 use differential::archive::{self, Answer, Slab};
 use differential::report::{Found, Report, area};
-use differential::{Random, caught, values};
+use differential::{Lent, Random, caught, refusal, values};
 use raptorq::octet::Octet;
 use raptorq::symbol_slab::SymbolSlab;
 
 const COUNTS: [u64; 7] = [0, 1, 2, 3, 5, 8, 20];
 const SIZES: [u64; 14] = [0, 1, 2, 15, 16, 17, 63, 64, 65, 128, 255, 256, 257, 600];
+const ABOVE_LIMITS: &str = "D27 (stores above the limits)";
 
-/// One operation: its kind, its places and its scalar.
+/// One operation: its kind, its places, its scalar, and the room for what it answers.
 #[derive(Debug)]
 struct Step {
     kind: u64,
     dest: usize,
     src: usize,
     scalar: u8,
+    room: usize,
 }
 
-/// What document 01 says of a call on these symbols: the refusal, if there is one.
-fn refusal(len: usize, slab: Slab, order: &[u32], places: &[usize]) -> Option<u32> {
-    let physical = |i: usize| if order.is_empty() { i } else { order[i] as usize };
-    let outside = |i: &usize| *i >= slab.count || physical(*i) >= slab.count;
-    if slab.count > 131_070 {
-        Some(2)
-    } else if len < slab.count * usize::from(slab.size) || !(order.is_empty() || order.len() == slab.count) {
-        Some(8)
-    } else if places.iter().any(outside) {
-        Some(6)
-    } else if places.len() == 2 && physical(places[0]) == physical(places[1]) {
-        Some(7)
-    } else {
-        None
+impl Step {
+    fn any(random: &mut Random, count: usize) -> Step {
+        let scalar = random.byte() >> random.below(8);
+        Step { kind: random.below(4), dest: random.near(count), src: random.near(count), scalar, room: random.room(2) }
     }
+    fn places(&self) -> Vec<usize> {
+        if self.kind == 1 || self.kind == 3 { vec![self.dest] } else { vec![self.dest, self.src] }
+    }
+}
+
+/// A length that an order of so many symbols cannot have.
+fn strange(order: &[u32], slab: Slab) -> bool {
+    !order.is_empty() && order.len() != slab.count
+}
+
+fn physical(order: &[u32], i: usize) -> Option<usize> {
+    if order.is_empty() { Some(i) } else { order.get(i).map(|place| *place as usize) }
+}
+
+/// What document 01 says of a step on a store of len bytes: the refusal, if there is one.
+fn refused(len: usize, slab: Slab, order: &[u32], step: &Step) -> Option<u32> {
+    let places = step.places();
+    let outside = |i: &usize| *i >= slab.count || physical(order, *i).is_none_or(|place| place >= slab.count);
+    refusal(&[
+        (2, slab.count > 131_070),
+        (8, len < slab.count * usize::from(slab.size)),
+        (8, strange(order, slab)),
+        (8, step.kind == 3 && step.room < 2),
+        (6, places.iter().any(outside)),
+        (7, places.len() == 2 && physical(order, places[0]) == physical(order, places[1])),
+    ])
+}
+
+/// Whether the crate takes a step: it finds each place in the order, if it has one, and of two it asserts that they differ and are below the count, but
+/// a part of 0 bytes lies in any slab. With debug assertions it takes no multiply-add by 0 or 1.
+fn takes(slab: Slab, order: &[u32], step: &Step) -> bool {
+    let found: Vec<Option<usize>> = step.places().into_iter().map(|i| physical(order, i)).collect();
+    let inside = |place: &Option<usize>| place.is_some_and(|p| p < slab.count || (slab.size == 0 && found.len() == 1));
+    found.iter().all(inside) && (found.len() == 1 || found[0] != found[1]) && !(cfg!(debug_assertions) && step.kind == 2 && step.scalar < 2)
 }
 
 fn ours(store: &mut [u8], slab: Slab, order: &[u32], step: &Step) -> Answer<Vec<u64>> {
@@ -40,7 +66,7 @@ fn ours(store: &mut [u8], slab: Slab, order: &[u32], step: &Step) -> Answer<Vec<
         0 => archive::slab_add_assign(store, slab, order, step.dest, step.src).map(none),
         1 => archive::slab_mulassign_scalar(store, slab, order, step.dest, step.scalar).map(none),
         2 => archive::slab_fma(store, slab, order, step.dest, step.src, step.scalar).map(none),
-        _ => values(2, |out| archive::slab_locate(store.len(), slab, order, step.dest, out)),
+        _ => values(step.room, 2, |out| archive::slab_locate(store.len(), slab, order, step.dest, out)),
     }
 }
 
@@ -56,69 +82,101 @@ fn theirs(slab: &mut SymbolSlab, step: &Step) -> Vec<u8> {
     vec![]
 }
 
+/// The crate's slab with these bytes, or 0 past their end, and this order, if it is one.
+fn crates_slab(slab: Slab, order: &[u32], store: &[u8]) -> SymbolSlab {
+    let mut crates = SymbolSlab::with_zeros(slab.count, slab.size.into());
+    let n = store.len().min(crates.data.len());
+    crates.data[..n].copy_from_slice(&store[..n]);
+    if !order.is_empty() {
+        crates.set_reorder(order.iter().map(|i| *i as usize).collect());
+    }
+    crates
+}
+
 fn sequence(report: &mut Report, random: &mut Random) {
     let count = COUNTS[random.below(7) as usize] as usize;
     let slab = Slab { count, size: SIZES[random.below(14) as usize] as u16 };
-    let used = slab.count * usize::from(slab.size);
     let more = random.below(3) as usize;
-    let mut store = random.bytes(used + more);
+    let mut store = random.bytes(slab.count * usize::from(slab.size) + more);
     // Entries repeat often, and some lie outside.
     let order: Vec<u32> = match random.below(3) {
         0 => vec![],
         _ => (0..count).map(|_| random.near(count) as u32).collect(),
     };
-    let mut crates = SymbolSlab::with_zeros(count, usize::from(slab.size));
-    crates.data = store[..used].to_vec();
-    if !order.is_empty() {
-        crates.set_reorder(order.iter().map(|i| *i as usize).collect());
-    }
+    let mut crates = crates_slab(slab, &order, &store);
     for _ in 0..=random.below(4) {
-        let step = Step { kind: random.below(4), dest: random.near(count), src: random.near(count), scalar: random.byte() >> random.below(8) };
-        one_step(report, &mut store, &mut crates, slab, &order, &step);
+        one_step(report, &mut store, &mut crates, slab, &order, &Step::any(random, count));
     }
 }
 
 fn one_step(report: &mut Report, store: &mut [u8], crates: &mut SymbolSlab, slab: Slab, order: &[u32], step: &Step) {
     let before = store.to_vec();
     let said = || format!("{slab:?}, order {order:?}, {step:?} on {before:?}");
-    let places = if step.kind == 1 || step.kind == 3 { vec![step.dest] } else { vec![step.dest, step.src] };
-    let expected = refusal(store.len(), slab, order, &places);
+    let refused = refused(store.len(), slab, order, step);
     let answer = ours(store, slab, order, step);
+    if refused == Some(8) && !strange(order, slab) {
+        return report.refusal(answer == Err(8) && store == before, said);
+    }
     let kept = crates.clone();
     let given = caught(|| theirs(crates, step));
-    if let Some(n) = expected {
+    if let Some(n) = refused {
         *crates = kept;
-        let same = answer == Err(n) && store == before;
-        let rule = if given.is_some() { "D15 (a place outside is taken where T is 0)" } else { "D14 (the slab panics)" };
-        return report.listed(rule, same && (given.is_none() || slab.size == 0), said);
+        let rule = match n {
+            2 => ABOVE_LIMITS,
+            8 => "D28 (an order of another length)",
+            _ if given.is_some() => "D15 (a place outside is taken where T is 0)",
+            _ => "D14 (the slab panics)",
+        };
+        return report.listed(rule, answer == Err(n) && store == before && given.is_some() == takes(slab, order, step), said);
+    }
+    let by_hand = given.is_none() && !takes(slab, order, step);
+    if by_hand {
+        (0..step.scalar).for_each(|_| crates.add_assign(step.dest, step.src));
+    }
+    let used = crates.data.len();
+    let memory = store[..used] == crates.data && store[used..] == before[used..];
+    if by_hand {
+        return report.listed("D4 (scalars 0 and 1)", answer == Ok(vec![]) && memory, said);
     }
     let shown = answer.as_ref().map(|v| v.first().map_or(vec![], |_| store[v[0] as usize..v[1] as usize].to_vec())).ok();
-    let used = crates.data.len();
-    report.case(given.is_some() && shown == given && store[..used] == crates.data && store[used..] == before[used..], said);
+    report.equal(given.is_some() && shown == given && memory, said);
 }
 
-/// Stores that are measured: too short, orders of another length, too many symbols, and zeroing.
+/// Zeros in a store of these bytes; what the store then holds.
+fn zeros(report: &mut Report, slab: Slab, before: Vec<u8>) -> Vec<u8> {
+    let len = before.len();
+    let lent = Lent::to(before, |store| archive::slab_with_zeros(store, slab));
+    let given = caught(|| SymbolSlab::with_zeros(slab.count, slab.size.into()).data);
+    let said = || format!("zeros, {slab:?} in {len}");
+    match refusal(&[(2, slab.count > 131_070), (8, len < slab.count * usize::from(slab.size))]) {
+        Some(2) => report.listed(ABOVE_LIMITS, lent.refused(2) && given.is_some(), said),
+        Some(n) => report.refusal(lent.refused(n), said),
+        None => report.equal(given.is_some_and(|bytes| lent.holds(&bytes)), said),
+    }
+    lent.after
+}
+
+/// Stores that are measured: too short, orders of another length, zeroing, and now and then more symbols than there may be.
 fn stores(report: &mut Report, random: &mut Random) {
     let slab = Slab { count: random.below(9) as usize, size: random.below(40) as u16 };
-    let used = slab.count * usize::from(slab.size);
-    let len = (used + random.below(4) as usize).saturating_sub(2);
+    let len = (slab.count * usize::from(slab.size) + random.below(4) as usize).saturating_sub(2);
+    zeros(report, slab, random.bytes(len));
     let mut store = random.bytes(len);
-    let before = store.clone();
-    let answer = archive::slab_with_zeros(&mut store, slab);
-    let zeroed = len >= used && store[..used] == SymbolSlab::with_zeros(slab.count, slab.size.into()).data && store[used..] == before[used..];
-    report.case(if len < used { answer == Err(8) && store == before } else { answer == Ok(()) && zeroed }, || format!("zeros, {slab:?} in {len}"));
     let order: Vec<u32> = (0..random.below(12)).map(|_| random.below(9) as u32).collect();
-    let step = Step { kind: random.below(4), dest: random.below(9) as usize, src: random.below(9) as usize, scalar: 3 };
-    let places = if step.kind == 1 || step.kind == 3 { vec![step.dest] } else { vec![step.dest, step.src] };
-    let strange = !(order.is_empty() || order.len() == slab.count);
-    if len < used || strange {
-        let kept = store.clone();
-        let n = refusal(len, slab, &order, &places).unwrap();
-        report.case(ours(&mut store, slab, &order, &step) == Err(n) && store == kept, || format!("{slab:?} in {len}, order {order:?}, {step:?}"));
+    let mut crates = crates_slab(slab, &order, &store);
+    one_step(report, &mut store, &mut crates, slab, &order, &Step::any(random, 9));
+    if random.below(64) == 0 {
+        many(report, random);
     }
-    let many = Slab { count: 131_071 + random.below(9) as usize, size: slab.size };
-    let kept = store.clone();
-    report.case(ours(&mut store, many, &order, &step) == Err(2) && store == kept, || format!("{many:?}"));
+}
+
+/// More symbols than document 01 allows.
+fn many(report: &mut Report, random: &mut Random) {
+    let slab = Slab { count: 131_071 + random.below(2) as usize, size: random.below(4) as u16 };
+    let mut store = zeros(report, slab, vec![7; slab.count * usize::from(slab.size)]);
+    let order: Vec<u32> = if random.below(2) == 0 { vec![] } else { (0..slab.count as u32).rev().collect() };
+    let mut crates = crates_slab(slab, &order, &store);
+    one_step(report, &mut store, &mut crates, slab, &order, &Step::any(random, slab.count));
 }
 
 pub fn run(count: u64, seed: u64) -> Found {

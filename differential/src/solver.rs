@@ -1,10 +1,10 @@
-//! Solving and display: blocks that the crate encoded, made-up systems against the harness's own elimination, and damaged calls.
+//! Solving and display: blocks that the crate encoded, made-up systems against the harness's own elimination, and calls that are refused.
 use differential::archive::{self, Arrived, Row, Stores};
 use differential::report::{Found, Report};
 use differential::rows::{self, any_tables, measures, sizes};
 use differential::system::{self, Verdict};
-use differential::{Random, values};
-use raptorq::{EncodingPacket, ObjectTransmissionInformation, SourceBlockDecoder, SourceBlockEncoder};
+use differential::{Random, caught, refusal, values};
+use raptorq::{EncodingPacket, ObjectTransmissionInformation, PayloadId, SourceBlockDecoder, SourceBlockEncoder};
 use raptorq_lent::rng::lent::published;
 
 /// Stores with room for the call and up to four places more, of any content.
@@ -57,7 +57,7 @@ fn solved(random: &mut Random, row: Row, tables: &[u32], came: Arrived, fixed: &
 fn kind(verdict: &Verdict) -> &'static str {
     match verdict {
         Verdict::Solved(_) => "systems solved",
-        Verdict::Contradiction => "contradictions",
+        Verdict::Contradiction => "systems contradictory",
         Verdict::Open(_) => "systems open",
     }
 }
@@ -72,32 +72,85 @@ pub fn some(random: &mut Random, mut packets: Vec<EncodingPacket>, n: usize) -> 
     packets
 }
 
+/// A block that the crate encoded, and its packets.
+struct Block {
+    data: Vec<u8>,
+    config: ObjectTransmissionInformation,
+    row: Row,
+    /// The crate's intermediate symbols.
+    set: Vec<u8>,
+    packets: Vec<EncodingPacket>,
+}
+
+impl Block {
+    fn new(random: &mut Random, k: u32, t: u16) -> Block {
+        let data = random.bytes(k as usize * usize::from(t));
+        let config = ObjectTransmissionInformation::new(data.len() as u64, t, 1, 1, 1);
+        let encoder = SourceBlockEncoder::new(0, &config, &data);
+        let first = if random.below(2) == 0 { 0 } else { random.below(100_000) as u32 };
+        let packets = encoder.source_packets().into_iter().chain(encoder.repair_packets(first, k + 10)).collect();
+        let slab = &encoder.intermediate_symbols;
+        let set = (0..slab.len()).flat_map(|i| slab.get(i).to_vec()).collect();
+        Block { data, config, row: *rows::published().iter().find(|r| r[0] >= k).expect("a row of Table 2"), set, packets }
+    }
+
+    /// What the crate's decoder makes of packets, or None where it panics.
+    fn decoded(&self, packets: Vec<EncodingPacket>) -> Option<Option<Vec<u8>>> {
+        caught(|| SourceBlockDecoder::new(0, &self.config, self.data.len() as u64).decode(packets))
+    }
+}
+
+/// The ESIs of packets, and their symbols one after the other.
+fn apart(packets: &[EncodingPacket]) -> (Vec<u32>, Vec<u8>) {
+    let esis = packets.iter().map(|p| p.payload_id().encoding_symbol_id()).collect();
+    (esis, packets.iter().flat_map(|p| p.data().to_vec()).collect())
+}
+
+/// A packet whose symbol is another.
+fn changed(packet: &EncodingPacket, change: impl FnOnce(&mut Vec<u8>)) -> EncodingPacket {
+    let (id, mut symbol) = packet.clone().split();
+    change(&mut symbol);
+    EncodingPacket::new(id, symbol)
+}
+
+/// One time in four a bit of a symbol is flipped, or a packet comes once more with a bit flipped; the rule under which the crate does not see that.
+fn spoil(random: &mut Random, packets: &mut Vec<EncodingPacket>) -> Option<&'static str> {
+    if packets.is_empty() || random.below(4) != 0 {
+        return None;
+    }
+    let at = random.below(packets.len() as u64) as usize;
+    let spoiled = changed(&packets[at], |symbol| symbol[0] ^= 1 << random.below(8));
+    if random.below(2) == 0 {
+        packets[at] = spoiled;
+        return Some("D19 (symbols that no set yields)");
+    }
+    packets.push(spoiled);
+    Some("D20 (an ESI twice with unequal symbols)")
+}
+
 /// A block that the crate encoded, of which k + extra packets came.
 fn real(report: &mut Report, random: &mut Random, k: u32, extra: i64) {
     let tables = published();
     let t = if random.below(20) == 0 { 41 + random.below(260) as u16 } else { 1 + random.below(40) as u16 };
-    let data = random.bytes(k as usize * usize::from(t));
-    let config = ObjectTransmissionInformation::new(data.len() as u64, t, 1, 1, 1);
-    let encoder = SourceBlockEncoder::new(0, &config, &data);
-    let row = *rows::published().iter().find(|r| r[0] >= k).unwrap();
-    let first = if random.below(2) == 0 { 0 } else { random.below(100_000) as u32 };
-    let sent: Vec<_> = encoder.source_packets().into_iter().chain(encoder.repair_packets(first, k + 10)).collect();
-    let packets = some(random, sent, (i64::from(k) + extra).max(0) as usize);
-    let (esis, symbols): (Vec<u32>, Vec<Vec<u8>>) = packets.iter().map(|p| (p.payload_id().encoding_symbol_id(), p.data().to_vec())).unzip();
-    let symbols = symbols.concat();
+    let block = Block::new(random, k, t);
+    let mut packets = some(random, block.packets.clone(), (i64::from(k) + extra).max(0) as usize);
+    let rule = spoil(random, &mut packets);
+    let (esis, symbols) = apart(&packets);
     let came = Arrived { count: k, t, esis: &esis, symbols: &symbols };
-    let (verdict, same, lent) = solved(random, row, &tables, came, &system::fixed(row, &tables, k));
-    let decoded = SourceBlockDecoder::new(0, &config, data.len() as u64).decode(packets);
-    let agrees = match &verdict {
+    let (verdict, same, lent) = solved(random, block.row, &tables, came, &system::fixed(block.row, &tables, k));
+    let decoded = block.decoded(packets);
+    let said = || format!("a block of {k}, T {t}, ESIs {esis:?}, symbols {symbols:?}");
+    report.kind(kind(&verdict));
+    match &verdict {
         Verdict::Solved(set) => {
-            let slab = &encoder.intermediate_symbols;
-            let theirs: Vec<u8> = (0..slab.len()).flat_map(|i| slab.get(i).to_vec()).collect();
-            *set == theirs && decoded.as_ref() == Some(&data) && archive::rebuilt(row, &tables, k, t, &lent.out) == Ok(data)
+            let rebuilt = archive::rebuilt(block.row, &tables, k, t, &lent.out).ok();
+            let sent = rule.is_some() || (*set == block.set && rebuilt.as_ref() == Some(&block.data));
+            report.equal(same && sent && rebuilt.is_some() && decoded == Some(rebuilt), said);
         }
-        Verdict::Contradiction => false,
-        Verdict::Open(_) => decoded.is_none(),
-    };
-    report.of(kind(&verdict), same && agrees, || format!("a block of {k}, T {t}, ESIs {esis:?}, symbols {symbols:?}"));
+        // Without a sign of it the crate gives some block, or none.
+        Verdict::Contradiction => report.listed(rule.unwrap_or("D19"), same && rule.is_some() && decoded.is_some(), said),
+        Verdict::Open(_) => report.listed("D21 (too few packets)", same && decoded == Some(None), said),
+    }
 }
 
 /// An accepted row with L of at most 71, so that many systems are solved in a short time.
@@ -157,7 +210,7 @@ fn made_up(report: &mut Report, random: &mut Random) {
 }
 
 /// A call that may be refused, whole.
-#[derive(Clone, Debug)]
+#[derive(Clone, Debug, PartialEq)]
 struct Call {
     row: Row,
     tables: Vec<u32>,
@@ -168,22 +221,37 @@ struct Call {
     lent: Stores,
 }
 
-/// Document 01's refusals in their order: 4, 5, 9, 10, 8.
-fn refusal(c: &Call) -> Option<u32> {
+/// What document 01 says of a call.
+fn refused_by(c: &Call) -> Option<u32> {
     let (n, t) = (c.esis.len(), usize::from(c.t));
-    if sizes(c.row).is_none() {
-        Some(4)
-    } else if c.tables.len() != 1024 {
-        Some(5)
-    } else if !(1..=c.row[0]).contains(&c.count) || n > 65535 || c.esis.iter().any(|e| *e >= 1 << 24) {
-        Some(9)
-    } else if t == 0 || c.symbols.len() != n * t {
-        Some(10)
-    } else {
-        let [l, m] = measures(c.row, c.count, n);
-        let short = c.lent.rows.len() < m * l || c.lent.values.len() < m * t || c.lent.out.len() < l * t || c.lent.shortfall.is_empty();
-        short.then_some(8)
-    }
+    let accepted = sizes(c.row).is_some() && (1..=c.row[0]).contains(&c.count);
+    let [l, m] = if accepted { measures(c.row, c.count, n) } else { [0, 0] };
+    refusal(&[
+        (4, sizes(c.row).is_none()),
+        (5, c.tables.len() != 1024),
+        (9, !(1..=c.row[0]).contains(&c.count) || n > 65535 || c.esis.iter().any(|e| *e >= 1 << 24)),
+        (10, t == 0 || c.symbols.len() != n * t),
+        (8, c.lent.rows.len() < m * l || c.lent.values.len() < m * t || c.lent.out.len() < l * t || c.lent.shortfall.is_empty()),
+    ])
+}
+
+/// The answer of ours, and what it leaves of all that it was given.
+fn called(call: &Call) -> (u32, Call) {
+    let mut after = call.clone();
+    let came = Arrived { count: call.count, t: call.t, esis: &after.esis, symbols: &after.symbols };
+    let code = archive::solve(call.row, &after.tables, came, &mut after.lent);
+    (code, after)
+}
+
+/// That document 01 refuses a call, and ours by the same number, with the whole memory as it was, inputs too.
+fn refuses(call: &Call) -> bool {
+    let (code, after) = called(call);
+    refused_by(call) == Some(code) && after == *call
+}
+
+/// Whether the crate makes no packet of one of these ESIs.
+fn unpacked(esis: &[u32]) -> bool {
+    esis.iter().max().is_some_and(|esi| caught(|| PayloadId::new(0, *esi)).is_none())
 }
 
 /// Something about a call that is not as it should be, or just is.
@@ -228,33 +296,31 @@ fn refused(report: &mut Report, random: &mut Random) {
     for _ in 0..=random.below(3) {
         damage(random, &mut call);
     }
-    let kept = call.clone();
-    let came = Arrived { count: call.count, t: call.t, esis: &call.esis, symbols: &call.symbols };
-    let code = archive::solve(call.row, &call.tables, came, &mut call.lent);
-    let inputs = call.tables == kept.tables && call.esis == kept.esis && call.symbols == kept.symbols;
-    match refusal(&kept) {
-        Some(n) => report.of("solves refused", code == n && inputs && call.lent == kept.lent, || format!("{n} of {kept:?}")),
+    let said = || format!("{call:?}");
+    match refused_by(&call) {
+        Some(9) if call.esis.iter().any(|e| *e >= 1 << 24) => report.listed("D6 (ESI of 2^24)", refuses(&call) && unpacked(&call.esis), said),
+        Some(_) => report.refusal(refuses(&call), said),
         None => {
-            let (verdict, measures) = judged(kept.row, &kept.tables, came, &system::fixed(kept.row, &kept.tables, kept.count));
-            report.of(kind(&verdict), as_told(&verdict, code, &kept.lent, &call.lent, measures) && inputs, || format!("taken: {kept:?}"));
+            let came = Arrived { count: call.count, t: call.t, esis: &call.esis, symbols: &call.symbols };
+            let (verdict, measures) = judged(call.row, &call.tables, came, &system::fixed(call.row, &call.tables, call.count));
+            let (code, after) = called(&call);
+            let inputs = after.tables == call.tables && after.esis == call.esis && after.symbols == call.symbols;
+            report.of(kind(&verdict), as_told(&verdict, code, &call.lent, &after.lent, measures) && inputs, said);
         }
     }
 }
 
 /// Document 01's display: the refusal, or the store and the place.
-fn displayed(came: Arrived, rebuilt: usize, i: u32, room: usize) -> Result<(usize, usize), u32> {
+fn displayed(came: Arrived, rebuilt: usize, i: u32, room: usize) -> Result<Vec<u64>, u32> {
     let (n, t) = (came.esis.len(), usize::from(came.t));
-    if !(1..=56403).contains(&came.count) || n > 65535 || came.esis.iter().any(|e| *e >= 1 << 24) {
-        Err(9)
-    } else if t == 0 || came.symbols.len() != n * t {
-        Err(10)
-    } else if rebuilt < came.count as usize * t || room < 2 {
-        Err(8)
-    } else if i >= came.count {
-        Err(6)
-    } else {
-        Ok(came.esis.iter().position(|e| *e == i).map_or((1, i as usize * t), |p| (0, p * t)))
-    }
+    let refused = refusal(&[
+        (9, !(1..=56403).contains(&came.count) || n > 65535 || came.esis.iter().any(|e| *e >= 1 << 24)),
+        (10, t == 0 || came.symbols.len() != n * t),
+        (8, rebuilt < came.count as usize * t || room < 2),
+        (6, i >= came.count),
+    ]);
+    let (store, place) = came.esis.iter().position(|e| *e == i).map_or((1, i as usize), |p| (0, p));
+    refused.map_or(Ok(vec![store, (place * t) as u64]), Err)
 }
 
 fn display(report: &mut Report, random: &mut Random) {
@@ -277,19 +343,76 @@ fn display(report: &mut Report, random: &mut Random) {
     let (symbols, rebuilt) = (random.bytes(came_len), vec![1; off(random, built_len)]);
     let came = Arrived { count, t, esis: &esis, symbols: &symbols };
     let i = random.near(near as usize) as u32;
-    let expected = displayed(came, rebuilt.len(), i, 2);
-    let answer = values(2, |out| archive::display(came, &rebuilt, i, out)).map(|v| (v[0] as usize, v[1] as usize));
-    let inside = answer.is_ok_and(|(store, at)| at + usize::from(t) <= [symbols.len(), rebuilt.len()][store]);
-    let said = || format!("symbol {i} of {count}, T {t}, ESIs {esis:?}, {} and {} bytes", symbols.len(), rebuilt.len());
-    report.of("displays", answer == expected && inside == answer.is_ok(), said);
-    let mut small = [9; 1];
-    let room = random.below(2) as usize;
-    let answer = archive::display(came, &rebuilt, i, &mut small[..room]);
-    report.of("displays without room", answer.err() == displayed(came, rebuilt.len(), i, room).err() && small == [9], said);
+    let room = random.room(2);
+    let expected = displayed(came, rebuilt.len(), i, room);
+    let answer = values(room, 2, |out| archive::display(came, &rebuilt, i, out));
+    let inside = |v: &Vec<u64>| v[1] as usize + usize::from(t) <= [symbols.len(), rebuilt.len()][v[0] as usize];
+    let said = || format!("symbol {i} of {count}, T {t}, ESIs {esis:?}, {} and {} bytes, room {room}", symbols.len(), rebuilt.len());
+    report.kind("displays");
+    match expected {
+        Err(_) => report.refusal(answer == expected, said),
+        Ok(_) => report.computed(answer == expected && answer.as_ref().is_ok_and(inside), said),
+    }
+}
+
+/// A call of ours with these packets, in the published tables.
+fn call_with(random: &mut Random, row: Row, count: u32, t: u16, packets: &[EncodingPacket]) -> Call {
+    let (esis, symbols) = apart(packets);
+    let lent = stores(random, row, count.min(row[0]), t, esis.len());
+    Call { row, tables: published(), count, t, esis, symbols, lent }
+}
+
+/// A call of ours for a block that is refused, without arrivals, and the crate's decoder without packets.
+fn refused_blocks(report: &mut Report, random: &mut Random) {
+    for (k, t, row, rule) in rows::refused_blocks() {
+        let length = u64::from(k) * u64::from(t);
+        let config = ObjectTransmissionInformation::new(length, t, 2, 1, 1);
+        let given = caught(|| SourceBlockDecoder::new(0, &config, length).decode(vec![]));
+        let seen = if k == 0 { given == Some(Some(vec![])) } else { given.is_none() };
+        let call = call_with(random, row, k, t, &[]);
+        report.listed(rule, refuses(&call) && seen, || format!("solve of K {k}, T {t}"));
+    }
+}
+
+/// More packets than document 01 takes, and just as many: the crate drops those that came before.
+fn many_packets(report: &mut Report, random: &mut Random, k: u32) {
+    let block = Block::new(random, k, 1);
+    for n in [65535, 65536] {
+        let packets: Vec<EncodingPacket> = block.packets.iter().cycle().take(n).cloned().collect();
+        let call = call_with(random, block.row, k, 1, &packets);
+        let decoded = block.decoded(packets) == Some(Some(block.data.clone()));
+        let said = || format!("{n} packets of a block of {k}");
+        if refused_by(&call).is_some() {
+            report.listed("D33 (65,536 arrivals)", refuses(&call) && decoded, said);
+        } else {
+            let (code, after) = called(&call);
+            report.equal(code == 0 && after.lent.out.starts_with(&block.set) && decoded, said);
+        }
+    }
+}
+
+/// A packet with an octet more or less than T. The crate looks at no symbol below K packets, takes the first T octets of each where all source packets came,
+/// and else copies each whole, which panics at another length.
+fn other_length(report: &mut Report, random: &mut Random) {
+    let (k, t) = (1 + random.below(60) as u32, 1 + random.below(9) as u16);
+    let block = Block::new(random, k, t);
+    let n = (k + random.below(6) as u32).saturating_sub(2).max(1) as usize;
+    let mut packets = if random.below(2) == 0 { block.packets[..n].to_vec() } else { some(random, block.packets.clone(), n) };
+    let (at, longer) = (random.below(n as u64) as usize, random.below(2) == 0);
+    packets[at] = changed(&packets[at], |symbol| symbol.resize(usize::from(t) + usize::from(longer) * 2 - 1, 7));
+    let call = call_with(random, block.row, k, t, &packets);
+    let all_source = call.esis.iter().filter(|e| **e < k).count() == k as usize;
+    let expected = match n < k as usize {
+        true => Some(None),
+        false => (all_source && (longer || call.esis[at] >= k)).then(|| Some(block.data.clone())),
+    };
+    let seen = block.decoded(packets) == expected;
+    let said = || format!("a block of {k}, T {t}, ESIs {:?}, symbol {at} longer: {longer}", call.esis);
+    report.listed("D35 (a symbol of another length)", refuses(&call) && seen, said);
 }
 
 pub fn run(count: u64, seed: u64) -> Found {
-    let mut report = Report::new("solver");
+    let mut report = Report::new("solver", seed);
     let mut random = Random::new(seed);
     for turn in 0..count.div_ceil(1_000_000) {
         for k in 1..=300 {
@@ -298,14 +421,12 @@ pub fn run(count: u64, seed: u64) -> Found {
             }
         }
     }
-    for _ in 0..count / 50 {
-        made_up(&mut report, &mut random);
-    }
-    for _ in 0..count / 10 {
-        refused(&mut report, &mut random);
-    }
-    for _ in 0..count / 10 {
-        display(&mut report, &mut random);
-    }
+    refused_blocks(&mut report, &mut random);
+    (1..=3).for_each(|k| many_packets(&mut report, &mut random, k));
+    let mut times = |n: u64, case: fn(&mut Report, &mut Random)| (0..n).for_each(|_| case(&mut report, &mut random));
+    times(count / 1000, other_length);
+    times(count / 50, made_up);
+    times(count / 10, refused);
+    times(count / 10, display);
     report.close()
 }

@@ -1,7 +1,7 @@
 //! The linear system of a call in the harness's own words: octets, the rows of RFC 6330 as sums, and Gauss's elimination column by column.
 use crate::Random;
 use crate::archive::Row;
-use crate::rows::{rand, shifted, sizes, tuple};
+use crate::rows::{rand, shifted, sizes, tuple, walk};
 use std::sync::LazyLock;
 
 /// RFC 6330, 5.7.2: products of polynomials modulo x^8 + x^4 + x^3 + x^2 + 1.
@@ -48,7 +48,7 @@ fn ldpc([k, _, s, h, w]: [usize; 5]) -> Vec<Vec<u8>> {
 }
 
 /// 5.3.3.3: MT times GAMMA, then the identity.
-fn hdpc([k, _, s, h, _]: [usize; 5], tables: &[u32]) -> Vec<Vec<u8>> {
+pub fn hdpc([k, _, s, h, _]: [usize; 5], tables: &[u32]) -> Vec<Vec<u8>> {
     let n = k + s;
     let mut alpha = vec![1u8];
     (1..n.max(h)).for_each(|i| alpha.push(product(alpha[i - 1], 2)));
@@ -70,19 +70,8 @@ fn hdpc([k, _, s, h, _]: [usize; 5], tables: &[u32]) -> Vec<Vec<u8>> {
 /// 5.3.5.3: the intermediate symbols that Enc adds up for an ISI.
 fn enc(row: Row, tables: &[u32], isi: u32) -> Vec<u8> {
     let [l, p, _, p1] = sizes(row).expect("an accepted row");
-    let [d, a, mut b, d1, a1, mut b1] = tuple(row, p1, tables, isi);
     let mut sum = vec![0; l as usize];
-    for _ in 0..d {
-        sum[b as usize] ^= 1;
-        b = (b + a) % row[4];
-    }
-    for _ in 0..d1 {
-        while b1 >= p {
-            b1 = (b1 + a1) % p1;
-        }
-        sum[(row[4] + b1) as usize] ^= 1;
-        b1 = (b1 + a1) % p1;
-    }
+    walk(tuple(row, p1, tables, isi), row[4], p, p1).into_iter().for_each(|j| sum[j as usize] ^= 1);
     sum
 }
 
