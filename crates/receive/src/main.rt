@@ -33,7 +33,7 @@ fn main() {
     let count = os::arg_count();
     let n = os::arg(1, &mut name);
     let whole = os::errno() == 0;
-    let target = target::target(count, whole, n);
+    let target = target::from_arguments(count, whole, n);
     match target {
         Target::Output => receive(b""),
         Target::File => receive(&name[..n]),

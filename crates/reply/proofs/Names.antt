@@ -30,3 +30,15 @@ pub beside-once : {path xs ys zs : List ℕ} {i m n : ℕ} → Beside path i xs 
 beside-once {path} {xs} {ys} {zs} {i} {m} {n} a b =
     let u = subst (λ (k : ℕ). Line (besideOf path k i) xs zs n) (sym (last-once (a .last) (b .last))) (b .line) in
     (a .line .count ∙ sym (u .count), written-once (a .line .laid) (u .laid))
+
+-- one place more that is no '/', on the way from the end to the front
+pub none-before : (path : List ℕ) (k : ℕ) → 0 < k → k ≤ length path → ((i : ℕ) → i < length path → k ≤ i → getD path i 0 ≡ 47 → ⊥)
+    → (getD path (k - 1) 0 ≡ 47 → ⊥)
+    → (k - 1 ≤ length path) × ((i : ℕ) → i < length path → k - 1 ≤ i → getD path i 0 ≡ 47 → ⊥)
+none-before path k some h f g = (omega arith, λ i b l e. go i b l e (decLt i k))
+  where
+    go : (i : ℕ) → i < length path → k - 1 ≤ i → getD path i 0 ≡ 47 → Dec (i < k) → ⊥
+    go i b l e (no m) = f i b (omega arith) e
+    go i b l e (yes m) =
+        let q : k - 1 ≡ i = omega arith in
+        g (ap (λ (x : ℕ). getD path x 0) q ∙ e)

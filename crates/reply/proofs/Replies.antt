@@ -29,12 +29,12 @@ module _ (ws xs ys zs : List ℕ) where
   in-words-once (Words m) (Words n) a b = (ap Words (a .count ∙ sym (b .count)), written-once (a .laid) (b .laid))
 
 module _ (xs ys zs : List ℕ) (r s : Reply) where
-  said-of-once : (v : Verdict) (f : ℕ) → SaidOf v f xs ys r → SaidOf v f xs zs s → (r ≡ s) × (ys ≡ zs)
+  said-of-once : (v : Verdict) (f : ℕ) → SaidOf f xs ys r v → SaidOf f xs zs s v → (r ≡ s) × (ys ≡ zs)
   said-of-once Solved f a b = (a .0 ∙ sym (b .0), a .1 ∙ sym (b .1))
   said-of-once Contradiction f a b = in-words-once (ascii "contradiction\n") xs ys zs r s a b
   said-of-once (Open n) f a b = in-words-once (openWords n) xs ys zs r s a b
 
-  said-once : (o : Received) → Said xs ys o r → Said xs zs o s → (r ≡ s) × (ys ≡ zs)
+  said-once : (o : Received) → Said xs ys r o → Said xs zs s o → (r ≡ s) × (ys ≡ zs)
   said-once (Taken v f) a b = said-of-once v f a b
   said-once (Stopped why) a b = in-words-once (stopWords why) xs ys zs r s a b
 
@@ -42,8 +42,8 @@ module _ (xs ys zs : List ℕ) (r s : Reply) where
 pub replied-once : {d xs ys zs : List ℕ} {r s : Reply} → Replied d xs ys r → Replied d xs zs s → (r ≡ s) × (ys ≡ zs)
 replied-once {d} {xs} {ys} {zs} {r} {s} a b =
     let e = comes-once d xs (a .store) (b .store) (a .what) (b .what) (a .comes) (b .comes) in
-    let u = subst (λ (o : Received). Said (b .store) zs o s) (sym (e .0)) (b .said) in
-    said-once (a .store) ys zs r s (a .what) (a .said) (subst (λ (m : List ℕ). Said m zs (a .what) s) (sym (e .1)) u)
+    let u = subst (λ (o : Received). Said (b .store) zs s o) (sym (e .0)) (b .said) in
+    said-once (a .store) ys zs r s (a .what) (a .said) (subst (λ (m : List ℕ). Said m zs s (a .what)) (sym (e .1)) u)
 
 -- ---- the content of both streams, whatever the store held before
 
@@ -65,8 +65,8 @@ module _ (d : List ℕ) {xs ys us vs : List ℕ} {n : ℕ} (a : Comes d xs ys (T
       ext-getD 0 (take n ys) (take n vs) (l ∙ sym m)
       (λ k h. getD-take n ys k 0 (omega arith) ∙ object-once d a b k (omega (arith, object-in d a)) ∙ sym (getD-take n vs k 0 (omega arith)))
 
-module _ (d xs us : List ℕ) {ys vs : List ℕ} {r s : Reply} (f : AtFront r ys) (g : AtFront s vs) where
-  same-said-of : (v : Verdict) (n : ℕ) (p q : List ℕ) → Comes d xs p (Taken v n) → Comes d us q (Taken v n) → SaidOf v n p ys r → SaidOf v n q vs s → Same r s ys vs
+module _ (d xs us ys vs : List ℕ) (r s : Reply) (f : AtFront r ys) (g : AtFront s vs) where
+  same-said-of : (v : Verdict) (n : ℕ) (p q : List ℕ) → Comes d xs p (Taken v n) → Comes d us q (Taken v n) → SaidOf n p ys r v → SaidOf n q vs s v → Same r s ys vs
   same-said-of Solved n p q x y a b =
       let x₁ = subst (λ (m : List ℕ). Comes d xs m (Taken Solved n)) (sym (a .1)) x in
       let y₁ = subst (λ (m : List ℕ). Comes d us m (Taken Solved n)) (sym (b .1)) y in
@@ -79,7 +79,7 @@ module _ (d xs us : List ℕ) {ys vs : List ℕ} {r s : Reply} (f : AtFront r ys
   same-said-of Contradiction n p q x y a b = same-words (ascii "contradiction\n") p ys q vs r s a b
   same-said-of (Open m) n p q x y a b = same-words (openWords m) p ys q vs r s a b
 
-  same-said : (o : Received) (p q : List ℕ) → Comes d xs p o → Comes d us q o → Said p ys o r → Said q vs o s → Same r s ys vs
+  same-said : (o : Received) (p q : List ℕ) → Comes d xs p o → Comes d us q o → Said p ys r o → Said q vs s o → Same r s ys vs
   same-said (Taken v n) p q x y a b = same-said-of v n p q x y a b
   same-said (Stopped why) p q x y a b = same-words (stopWords why) p ys q vs r s a b
 
@@ -88,7 +88,7 @@ module _ (d xs us : List ℕ) {ys vs : List ℕ} {r s : Reply} (f : AtFront r ys
   streams-once a b =
       let e = comes-only d xs (a .store) us (b .store) (a .what) (b .what) (a .comes) (b .comes) in
       same-said (a .what) (a .store) (b .store) (a .comes) (subst (Comes d us (b .store)) (sym e) (b .comes)) (a .said)
-      (subst (λ (o : Received). Said (b .store) vs o s) (sym e) (b .said))
+      (subst (λ (o : Received). Said (b .store) vs s o) (sym e) (b .said))
 
 -- ---- what is written stands in the store
 
@@ -97,11 +97,11 @@ words-front ws xs ys (Object n) u = absurd u
 words-front ws xs ys (Words n) u = line-counts u
 
 module _ (d xs zs ys : List ℕ) (r : Reply) (l : 307200 ≤ length zs) where
-  verdict-front : (v : Verdict) (n : ℕ) → Comes d xs zs (Taken v n) → SaidOf v n zs ys r → AtFront r ys
+  verdict-front : (v : Verdict) (n : ℕ) → Comes d xs zs (Taken v n) → SaidOf n zs ys r v → AtFront r ys
   verdict-front Solved n u w = subst (λ (t : Reply). AtFront t ys) (sym (w .0)) (counts ys (omega (arith, object-fits d u, ap length (w .1))))
   verdict-front Contradiction n u w = words-front (ascii "contradiction\n") zs ys r w
   verdict-front (Open m) n u w = words-front (openWords m) zs ys r w
 
-  pub said-front : (o : Received) → Comes d xs zs o → Said zs ys o r → AtFront r ys
+  pub said-front : (o : Received) → Comes d xs zs o → Said zs ys r o → AtFront r ys
   said-front (Taken v n) u w = verdict-front v n u w
   said-front (Stopped why) u w = words-front (stopWords why) zs ys r w

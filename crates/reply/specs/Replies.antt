@@ -34,18 +34,18 @@ InWords words xs ys (Object n) = ⊥
 InWords words xs ys (Words n) = Line words xs ys n
 
 -- the object, of f bytes, stands in the store already; all else is said in a line
-abbrev pub SaidOf : Verdict → ℕ → (xs ys : List ℕ) → Reply → Type 0
-SaidOf Solved f xs ys r = (r ≡ Object f) × (ys ≡ xs)
-SaidOf Contradiction f xs ys r = InWords (ascii "contradiction\n") xs ys r
-SaidOf (Open s) f xs ys r = InWords (openWords s) xs ys r
+abbrev pub SaidOf : ℕ → (xs ys : List ℕ) → Reply → Verdict → Type 0
+SaidOf f xs ys r Solved = (r ≡ Object f) × (ys ≡ xs)
+SaidOf f xs ys r Contradiction = InWords (ascii "contradiction\n") xs ys r
+SaidOf f xs ys r (Open s) = InWords (openWords s) xs ys r
 
-abbrev pub Said : (xs ys : List ℕ) → Received → Reply → Type 0
-Said xs ys (Taken verdict f) r = SaidOf verdict f xs ys r
-Said xs ys (Stopped why) r = InWords (stopWords why) xs ys r
+abbrev pub Said : (xs ys : List ℕ) → Reply → Received → Type 0
+Said xs ys r (Taken verdict f) = SaidOf f xs ys r verdict
+Said xs ys r (Stopped why) = InWords (stopWords why) xs ys r
 
 -- The contract: what comes of the delivery d, said.
 pub record Replied (d xs ys : List ℕ) (r : Reply) : Type 0 where
   pub what : Received
   pub store : List ℕ
   pub comes : Comes d xs store what
-  pub said : Said store ys what r
+  pub said : Said store ys r what

@@ -15,7 +15,7 @@ pub enum Reply {
 
 fn say_verdict(out: &mut [u8], v: Verdict, f: usize) -> Reply
     requires { ⌜ 200 ≤ length (now out) ⌝ }
-    ensures { λ r. ⌜ SaidOf v f (now (out .entry)) (now (out .exit)) r ⌝ }
+    ensures { λ r. ⌜ SaidOf f (now (out .entry)) (now (out .exit)) r v ⌝ }
 {
     match v {
         Verdict::Solved => Reply::Object(f),
@@ -26,7 +26,7 @@ fn say_verdict(out: &mut [u8], v: Verdict, f: usize) -> Reply
 
 fn say(out: &mut [u8], what: Received) -> Reply
     requires { ⌜ 200 ≤ length (now out) ⌝ }
-    ensures { λ r. ⌜ Said (now (out .entry)) (now (out .exit)) what r ⌝ }
+    ensures { λ r. ⌜ Said (now (out .entry)) (now (out .exit)) r what ⌝ }
 {
     match what {
         Received::Taken(v, f) => say_verdict(out, v, f),

@@ -15,7 +15,7 @@ pub enum Target {
 }
 
 // Of `count` arguments, the program's own name among them; `whole`: the first one behind it fits the store for it, and has n bytes.
-pub fn target(count: usize, whole: bool, n: usize) -> Target
+pub fn from_arguments(count: usize, whole: bool, n: usize) -> Target
     ensures { λ r. ⌜ r ≡ targetOf count whole n ⌝ }
 {
     if count < 2 {
