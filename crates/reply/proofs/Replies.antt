@@ -71,8 +71,7 @@ module _ (d xs us ys vs : List ℕ) (r s : Reply) (f : AtFront r ys) (g : AtFron
       let x₁ = subst (λ (m : List ℕ). Comes d xs m (Taken Solved n)) (sym (a .1)) x in
       let y₁ = subst (λ (m : List ℕ). Comes d us m (Taken Solved n)) (sym (b .1)) y in
       let f₁ = subst (λ (t : Reply). AtFront t ys) (a .0) f in
-      let g₁ = subst (λ (t : Reply). AtFront t vs) (b .0) g in
-      (
+      let g₁ = subst (λ (t : Reply). AtFront t vs) (b .0) g in (
         ap (λ (t : Reply). toOutput t ys) (a .0) ∙ same-object d x₁ y₁ (f₁ .0) (g₁ .0) ∙ sym (ap (λ (t : Reply). toOutput t vs) (b .0)),
         ap (λ (t : Reply). toError t ys) (a .0) ∙ sym (ap (λ (t : Reply). toError t vs) (b .0)),
       )

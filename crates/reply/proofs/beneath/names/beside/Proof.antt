@@ -1,99 +1,100 @@
+-- `reply::beneath::names::beside` meets its contract: five parts, one behind the other.
+-- Assumes nothing.
+use mathlib.Core.Path.{sym}
+use native.Mathlib.Omega.{arith}
+use lib.Seq.{length-take-le}
+use Rattle.header_text.proofs.Lines.{fewest-20}
+use Rattle.reply.proofs.Names.{beside-laid}
 use borrow.Author.Needs.{needs}
 use Rattle.reply.proofs.beneath.names.beside.Statement.{statement}
 use Rattle.reply.proofs.beneath.names.beside.Tie as tie
-use Rattle.reply.proofs.beneath.names.beside.Reads as reads
-use Rattle.reply.proofs.beneath.names.beside.Lts as lts
-use Rattle.headers.proofs.beneath.big_endian.copy.Reads as copy-reads
-use Rattle.io.proofs.decimal.Reads as decimal-reads
-use Rattle.reply.proofs.beneath.names.last_part.Reads as last-part-reads
 
--- src/beneath/names.rt:27:9
 decimal-requires : tie.Need-decimal-requires
 decimal-requires c κs = search needs
 
--- src/beneath/names.rt:28:9
 last-part-requires : tie.Need-last-part-requires
 last-part-requires c κs = search needs
 
--- src/beneath/names.rt:30:31
 slice-aggregate-copy : tie.Need-slice-aggregate-copy
-slice-aggregate-copy c = search needs
+slice-aggregate-copy c = sym (length-take-le (c .before .before .last-part .result) (c .before .before .before .before .before .before .before .args .path .now) (c .before .before .last-part .ensures .inside))
 
--- src/beneath/names.rt:30:5
 copy-requires : tie.Need-copy-requires
-copy-requires c κs = search needs
+copy-requires c κs =
+    let l = length-take-le (c .before .before .last-part .result) (c .before .before .before .before .before .before .before .args .path .now) (c .before .before .last-part .ensures .inside) in
+    omega (arith, l, c .before .before .before .before .before .before .before .pre, c .before .before .last-part .ensures .inside)
 
--- src/beneath/names.rt:31:31
 slice-aggregate-copy-2 : tie.Need-slice-aggregate-copy-2
 slice-aggregate-copy-2 c = search needs
 
--- src/beneath/names.rt:31:5
 copy-requires-2 : tie.Need-copy-requires-2
 copy-requires-2 c κs = search needs
 
--- src/beneath/names.rt:32:28
 add-copy : tie.Need-add-copy
 add-copy c = search needs
 
--- src/beneath/names.rt:32:35
 sub-copy : tie.Need-sub-copy
 sub-copy c = search needs
 
--- src/beneath/names.rt:32:35
 part-copy-start : tie.Need-part-copy-start
 part-copy-start c = search needs
 
--- src/beneath/names.rt:32:35
 part-copy-end : tie.Need-part-copy-end
 part-copy-end c = search needs
 
--- src/beneath/names.rt:32:5
 copy-requires-3 : tie.Need-copy-requires-3
 copy-requires-3 c κs = search needs
 
--- src/beneath/names.rt:33:28
 add-copy-2 : tie.Need-add-copy-2
 add-copy-2 c = search needs
 
--- src/beneath/names.rt:33:37
 slice-aggregate-copy-3 : tie.Need-slice-aggregate-copy-3
 slice-aggregate-copy-3 c = search needs
 
--- src/beneath/names.rt:33:5
 copy-requires-4 : tie.Need-copy-requires-4
 copy-requires-4 c κs = search needs
 
--- src/beneath/names.rt:34:28
 add-copy-3 : tie.Need-add-copy-3
 add-copy-3 c = search needs
 
--- src/beneath/names.rt:34:38
 array-share-prefix-digits : tie.Need-array-share-prefix-digits
 array-share-prefix-digits c = search needs
 
--- src/beneath/names.rt:34:38
 slice-aggregate-copy-4 : tie.Need-slice-aggregate-copy-4
 slice-aggregate-copy-4 c = search needs
 
--- src/beneath/names.rt:34:5
 copy-requires-5 : tie.Need-copy-requires-5
-copy-requires-5 c κs = search needs
+copy-requires-5 c κs =
+    let s = c .before .before .before .before .before .before .before .before .before .before .before .before .before .before .before .before .before .before .before .before .before .before .before .before .before .before .before in
+    let d = c .before .before .before .before .before .before .before .before .before .before .before .before .before .before .before .before .before .before .before .before .before .before .before .decimal in
+    let f = fewest-20 (d .result) (s .args .i) (d .ensures .1 .0) (omega (arith, s .fits .i .fits)) in
+    omega (arith, f, d .ensures .0 .1, s .pre, c .before .before .before .before .before .before .before .before .before .before .before .before .before .before .before .before .before .before .before .copy .ensures .size, c .before .before .before .before .before .before .before .before .before .before .before .before .before .before .copy2 .ensures .size, c .before .before .before .before .before .before .before .before .before .copy3 .ensures .size, c .before .before .before .before .copy4 .ensures .size)
 
--- src/beneath/names.rt:35:5
 add-result : tie.Need-add-result
-add-result c = search needs
+add-result c =
+    let s = c .before .before .before .before .before .before .before .before .before .before .before .before .before .before .before .before .before .before .before .before .before .before .before .before .before .before .before .before .before .before in
+    let d = c .before .before .before .before .before .before .before .before .before .before .before .before .before .before .before .before .before .before .before .before .before .before .before .before .before .before .decimal in
+    omega (arith, fewest-20 (d .result) (s .args .i) (d .ensures .1 .0) (omega (arith, s .fits .i .fits)), s .pre)
 
--- src/beneath/names.rt:35:5
 add-result-2 : tie.Need-add-result-2
-add-result-2 c = search needs
+add-result-2 c =
+    let s = c .before .before .before .before .before .before .before .before .before .before .before .before .before .before .before .before .before .before .before .before .before .before .before .before .before .before .before .before .before .before in
+    let d = c .before .before .before .before .before .before .before .before .before .before .before .before .before .before .before .before .before .before .before .before .before .before .before .before .before .before .decimal in
+    omega (arith, fewest-20 (d .result) (s .args .i) (d .ensures .1 .0) (omega (arith, s .fits .i .fits)), s .pre)
 
--- src/beneath/names.rt:22:1
 same-length : tie.Need-same-length
 same-length c = search needs
 
--- src/beneath/names.rt:22:1
 returns : tie.Need-returns
-returns c = search needs
+returns c =
+    let s = c .before .before .before .before .before .before .before .before .before .before .before .before .before .before .before .before .before .before .before .before .before .before .before .before .before .before .before .before .before .before in
+    let d = c .before .before .before .before .before .before .before .before .before .before .before .before .before .before .before .before .before .before .before .before .before .before .before .before .before .before .decimal in
+    let p = c .before .before .before .before .before .before .before .before .before .before .before .before .before .before .before .before .before .before .before .before .before .before .before .before .before .last-part in
+    record {
+      from = p .result;
+      last = p .ensures;
+      line = beside-laid (s .args .path .now) (p .result) (s .args .i) (p .ensures .inside) _ (d .result) (s .pre) (omega (arith, s .fits .i .fits)) (d .ensures .1 .0) (d .ensures .1 .1) (d .ensures .0 .1)
+          (c .before .before .before .before .before .before .before .before .before .before .before .before .before .before .before .before .before .before .before .before .before .before .copy .ensures) (c .before .before .before .before .before .before .before .before .before .before .before .before .before .before .before .before .before .copy2 .ensures) (c .before .before .before .before .before .before .before .before .before .before .before .before .copy3 .ensures) (c .before .before .before .before .before .before .before .copy4 .ensures) (c .before .before .copy5 .ensures);
+    }
 
 pub beside-spec : {M : Type 1} → statement M
 beside-spec =

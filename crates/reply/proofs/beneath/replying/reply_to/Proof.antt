@@ -19,10 +19,9 @@ returns : tie.Need-returns
 returns c =
     let a = c .before .before .before .before .before .before .before .before .before .before in
     let r = c .before .before .before .before .before .before .receive in
-    let s = c .before .before .say in
-    (
+    let s = c .before .before .say in (
       record { what = r .result; store = r .last .1 .0; comes = r .ensures; said = s .ensures },
-      said-front (a .args .bytes .now) (a .args .out .now) (r .last .1 .0) _ (s .result) (omega (arith, a .pre, r .kept .1 .0)) (r .result) (r .ensures) (s .ensures)
+      said-front (a .args .bytes .now) (a .args .out .now) (r .last .1 .0) _ (s .result) (omega (arith, a .pre, r .kept .1 .0)) (r .result) (r .ensures) (s .ensures),
     )
 
 pub reply-to-spec : {M : Type 1} → statement M
