@@ -1,4 +1,4 @@
--- A delivery has one outcome; the source symbols that arrived stand in the object; an input that fills the program's store is never taken.
+-- A delivery comes to one thing; the source symbols that arrived stand in the object; an input that fills the program's store is never taken.
 -- Assumes nothing.
 use mathlib.Core.Path.{_≡_, refl, sym, ap, ap₂, _∙_, subst}
 use mathlib.Core.List.{List}
@@ -6,34 +6,37 @@ use Prim.Native.Nat.{ℕ, _+_, _*_, _≤_, _<_}
 use native.Mathlib.Nat.{zero-add, mul-le-mul}
 use native.Mathlib.Omega.{arith}
 use lib.Arith.{digits-div, digits-mod, digits-lt}
-use lib.ListN.{length, getD}
+use lib.ListN.{length, getD, take}
 use Rattle.field.specs.Answer.{given, numberOf}
 use Rattle.field.specs.Runs.{Written}
 use Rattle.field.specs.declared.refusal.Refusal.{Refusal}
 use Rattle.field.specs.declared.refusal.Refusal.the-variants as Why
 use Rattle.field.proofs.Answers.{given-not-refused, refused-only, number-only}
 use Rattle.field.proofs.Writing.{written-once}
+use Rattle.headers.specs.Row.{lOf}
 use Rattle.headers.specs.declared.row.Row.{Row}
+use Rattle.headers.proofs.Quotient.{ceil-enough}
 use Rattle.headers.proofs.Shifts.{shifted-below}
 use Rattle.linear.specs.System.{System}
-use Rattle.linear.proofs.AnswersBytes.{shortfall-bytes-once, solved-bytes-not-contradiction, open-bytes-not-contradiction, solved-bytes-not-open}
 use Rattle.linear.proofs.Bytes.{length-tabulate, getD-tabulate}
 use Rattle.encoding.specs.Encoded.{encoded}
 use Rattle.encoding.proofs.Settled.{RowOf, encoded-fits}
 use Rattle.constraints.specs.Encoding.{encOf}
+use Rattle.elimination.specs.declared.verdict.Verdict.{Verdict}
+use Rattle.elimination.specs.declared.verdict.Verdict.the-variants.{Solved, Contradiction, Open}
+use Rattle.elimination.proofs.Once.{verdict-once}
 use Rattle.solver.specs.System.{fixed, sentRow}
 use Rattle.solver.proofs.Holding.{arrival-row, arrival-byte}
-use Rattle.delivery.specs.Layout.{rowAt, tablesOf, kOf, tOf, nOf, packetAt, esiAt, octetAt, esisOf, symbolsOf}
+use Rattle.delivery.specs.Layout.{rowIn, tablesOf, fOf, kOf, tOf, nOf, packetAt, esiAt, octetAt, esisOf, symbolsOf}
 use Rattle.delivery.specs.Screen.{screen, stopOf}
-use Rattle.delivery.specs.Received.{Rebuilt, Comes, sourceOctet, deliveredSystem}
-use Rattle.delivery.specs.Words.{Line, Said, Delivered}
+use Rattle.delivery.specs.Received.{Comes, Concluded, sourceOctet, deliveredSystem}
 use Rattle.delivery.specs.declared.beneath.screen.Stop.{Stop}
 use Rattle.delivery.specs.declared.beneath.screen.Stop.the-variants as Stops
-use Rattle.delivery.specs.declared.beneath.receiver.Outcome.{Outcome}
-use Rattle.delivery.specs.declared.beneath.receiver.Outcome.the-variants.{Object, Contradiction, Open, Stopped}
+use Rattle.delivery.specs.declared.beneath.receiver.Received.{Received}
+use Rattle.delivery.specs.declared.beneath.receiver.Received.the-variants.{Taken, Stopped}
 use Rattle.delivery.proofs.Screening.{sound}
 
--- ---- one outcome
+-- ---- one verdict, or one reason
 
 small : (w : Refusal) → numberOf w ≤ 10
 small Why.DivisorZero = omega arith
@@ -65,46 +68,55 @@ stop-only Stops.OtherBlock Stops.TooLarge e = absurd (omega arith)
 stop-only Stops.OtherBlock Stops.SeveralBlocks e = absurd (omega arith)
 stop-only Stops.OtherBlock Stops.OtherBlock e = refl
 
-rebuilt-once : {r : Row} {v : List ℕ} {k t : ℕ} {S : System ℕ} {xs ys zs : List ℕ} → Rebuilt r v k t S xs ys → Rebuilt r v k t S xs zs → ys ≡ zs
-rebuilt-once {r} {v} {k} {t} {S} {xs} {ys} {zs} a b =
-    let e : b .set ≡ a .set = a .solved .only (b .set) (b .solved .block) (b .solved .fits) in
-    written-once (a .block) (subst (λ (C : List ℕ). Written (sourceOctet v r t C) xs zs 0 (k * t)) e (b .block))
+-- two sets that are solved are one, so the block of the one is that of the other
+module _ {r : Row} {v : List ℕ} {k t : ℕ} {S : System ℕ} {xs ys us vs : List ℕ} (a : Concluded r v k t S xs ys Solved) (b : Concluded r v k t S us vs Solved) where
+  same-block : Written (sourceOctet v r t (take (lOf r * t) (a .set))) us vs 0 (k * t)
+  same-block =
+      let e : take (lOf r * t) (b .set) ≡ take (lOf r * t) (a .set) = a .means .0 .only (take (lOf r * t) (b .set)) (b .means .0 .block) (b .means .0 .fits) in
+      subst (λ (C : List ℕ). Written (sourceOctet v r t C) us vs 0 (k * t)) e (b .leaves)
 
--- any two results that the contract allows are the same, outcome and store
-pub comes-once : (d xs ys zs : List ℕ) (o p : Outcome) → Comes d xs ys o → Comes d xs zs p → (o ≡ p) × (ys ≡ zs)
-comes-once d xs ys zs (Object m) (Object n) a b = (ap Object (a .1 .0 ∙ sym (b .1 .0)), rebuilt-once (a .1 .1) (b .1 .1))
-comes-once d xs ys zs (Object m) Contradiction a b = absurd (solved-bytes-not-contradiction (a .1 .1 .solved) (b .1 .0))
-comes-once d xs ys zs (Object m) (Open s) a b = absurd (solved-bytes-not-open (a .1 .1 .solved) (b .1 .0))
-comes-once d xs ys zs (Object m) (Stopped w) a b = absurd (given-not-refused tt (stopOf w) (sym (a .0) ∙ b .0))
-comes-once d xs ys zs Contradiction (Object n) a b = absurd (solved-bytes-not-contradiction (b .1 .1 .solved) (a .1 .0))
-comes-once d xs ys zs Contradiction Contradiction a b = (refl, a .1 .1 ∙ sym (b .1 .1))
-comes-once d xs ys zs Contradiction (Open s) a b = absurd (open-bytes-not-contradiction (b .1 .0) (a .1 .0))
-comes-once d xs ys zs Contradiction (Stopped w) a b = absurd (given-not-refused tt (stopOf w) (sym (a .0) ∙ b .0))
-comes-once d xs ys zs (Open s) (Object n) a b = absurd (solved-bytes-not-open (b .1 .1 .solved) (a .1 .0))
-comes-once d xs ys zs (Open s) Contradiction a b = absurd (open-bytes-not-contradiction (a .1 .0) (b .1 .0))
-comes-once d xs ys zs (Open s) (Open u) a b = (ap Open (shortfall-bytes-once (a .1 .1) (b .1 .1)), a .1 .2 ∙ sym (b .1 .2))
-comes-once d xs ys zs (Open s) (Stopped w) a b = absurd (given-not-refused tt (stopOf w) (sym (a .0) ∙ b .0))
-comes-once d xs ys zs (Stopped v) (Object n) a b = absurd (given-not-refused tt (stopOf v) (sym (b .0) ∙ a .0))
-comes-once d xs ys zs (Stopped v) Contradiction a b = absurd (given-not-refused tt (stopOf v) (sym (b .0) ∙ a .0))
-comes-once d xs ys zs (Stopped v) (Open s) a b = absurd (given-not-refused tt (stopOf v) (sym (b .0) ∙ a .0))
-comes-once d xs ys zs (Stopped v) (Stopped w) a b =
-    (ap Stopped (stop-only v w (refused-only (stopOf v) (stopOf w) (sym (a .0) ∙ b .0))), a .1 ∙ sym (b .1))
+concluded-once : {r : Row} {v : List ℕ} {k t : ℕ} {S : System ℕ} {xs ys zs : List ℕ} (w : Verdict) → Concluded r v k t S xs ys w → Concluded r v k t S xs zs w → ys ≡ zs
+concluded-once Solved a b = written-once (a .leaves) (same-block a b)
+concluded-once Contradiction a b = a .leaves ∙ sym (b .leaves)
+concluded-once (Open s) a b = a .leaves ∙ sym (b .leaves)
 
--- and so with what is written of it
-line-once : {ws xs ys zs : List ℕ} {r s : ℕ} → Line ws xs ys r → Line ws xs zs s → (r ≡ s) × (ys ≡ zs)
-line-once a b = (a .count ∙ sym (b .count), written-once (a .laid) (b .laid))
+-- a delivery comes to one thing, whatever the store held before
+pub comes-only : (d xs ys us vs : List ℕ) (o p : Received) → Comes d xs ys o → Comes d us vs p → o ≡ p
+comes-only d xs ys us vs (Taken v m) (Taken w n) a b =
+    let x = a .1 .1 in
+    let y = b .1 .1 in
+    ap₂ Taken (verdict-once (lOf (rowIn d)) (tOf d) (deliveredSystem d) (x .was) (x .set) (y .was) (y .set) v w (x .means) (y .means)) (a .1 .0 ∙ sym (b .1 .0))
+comes-only d xs ys us vs (Taken v m) (Stopped q) a b = absurd (given-not-refused tt (stopOf q) (sym (a .0) ∙ b .0))
+comes-only d xs ys us vs (Stopped p) (Taken w n) a b = absurd (given-not-refused tt (stopOf p) (sym (b .0) ∙ a .0))
+comes-only d xs ys us vs (Stopped p) (Stopped q) a b = ap Stopped (stop-only p q (refused-only (stopOf p) (stopOf q) (sym (a .0) ∙ b .0)))
 
-said-once : (xs ys zs : List ℕ) (r s : ℕ) (o : Outcome) → Said xs ys r o → Said xs zs s o → (r ≡ s) × (ys ≡ zs)
-said-once xs ys zs r s (Object n) a b = (a .0 ∙ sym (b .0), a .1 ∙ sym (b .1))
-said-once xs ys zs r s Contradiction a b = line-once a b
-said-once xs ys zs r s (Open n) a b = line-once a b
-said-once xs ys zs r s (Stopped w) a b = line-once a b
+store-once : (d xs ys zs : List ℕ) (o : Received) → Comes d xs ys o → Comes d xs zs o → ys ≡ zs
+store-once d xs ys zs (Taken v n) a b = concluded-once v (a .1 .1) (b .1 .1)
+store-once d xs ys zs (Stopped why) a b = a .1 ∙ sym (b .1)
 
-pub delivered-once : {d xs ys zs : List ℕ} {r s : ℕ} → Delivered d xs ys r → Delivered d xs zs s → (r ≡ s) × (ys ≡ zs)
-delivered-once {d} {xs} {ys} {zs} {r} {s} a b =
-    let e = comes-once d xs (a .between) (b .between) (a .outcome) (b .outcome) (a .comes) (b .comes) in
-    let u = subst (λ (o : Outcome). Said (b .between) zs s o) (sym (e .0)) (b .said) in
-    said-once (a .between) ys zs r s (a .outcome) (a .said) (subst (λ (m : List ℕ). Said m zs s (a .outcome)) (sym (e .1)) u)
+-- any two results that the contract allows are the same, verdict and store
+pub comes-once : (d xs ys zs : List ℕ) (o p : Received) → Comes d xs ys o → Comes d xs zs p → (o ≡ p) × (ys ≡ zs)
+comes-once d xs ys zs o p a b =
+    let e = comes-only d xs ys xs zs o p a b in
+    (e, store-once d xs ys zs o a (subst (Comes d xs zs) (sym e) b))
+
+-- ---- the object
+
+module _ (d : List ℕ) {xs ys us vs : List ℕ} {m n : ℕ} (a : Comes d xs ys (Taken Solved m)) (b : Comes d us vs (Taken Solved n)) where
+  -- its bytes do not depend on what the store held before
+  pub object-once : (x : ℕ) → x < kOf d * tOf d → getD ys x 0 ≡ getD vs x 0
+  object-once x h = rw zero-add at (a .1 .1 .leaves .part x h ∙ sym (same-block (a .1 .1) (b .1 .1) .part x h))
+
+-- it is no longer than the block, and the block fits the program's store
+module _ (d : List ℕ) {xs ys : List ℕ} {v : Verdict} {n : ℕ} (a : Comes d xs ys (Taken v n)) where
+  pub object-in : n ≤ kOf d * tOf d
+  object-in = omega (arith, a .1 .0, ceil-enough (fOf d) (tOf d) (sound d (a .0) .t-low))
+
+  pub object-fits : n ≤ 307200
+  object-fits =
+      let h = sound d (a .0) in
+      let k = mul-le-mul {n₁ = kOf d} {m₁ = tOf d} {n₂ = 300} {m₂ = 1024} (omega (arith, h .row .k-high, h .row .l-high)) (h .row .t-high) in
+      omega (arith, object-in)
 
 -- ---- an input that fills the program's store of 375,236 bytes
 
@@ -124,30 +136,31 @@ module _ (d : List ℕ) (p b : ℕ) (h : p < nOf d) (l : esiAt d (tOf d) p < kOf
   esi-is = getD-tabulate (nOf d) (esiAt d (tOf d)) p h
 
   -- its equation is that of its ESI
-  row-is : RowOf (tablesOf d) (rowAt d) (deliveredSystem d) (fixed (rowAt d) (kOf d) + p) (esiAt d (tOf d) p)
+  row-is : RowOf (tablesOf d) (rowIn d) (deliveredSystem d) (fixed (rowIn d) (kOf d) + p) (esiAt d (tOf d) p)
   row-is c u =
-      arrival-row (rowAt d) (tablesOf d) (kOf d) (tOf d) (esisOf d) (symbolsOf d) p c
-      ∙ ap (λ (x : ℕ). sentRow (tablesOf d) (rowAt d) (kOf d) x c) esi-is
-      ∙ ap (λ (x : ℕ). encOf (tablesOf d) (rowAt d) x c) (shifted-below (kOf d) (rowAt d .kp) (esiAt d (tOf d) p) l)
+      arrival-row (rowIn d) (tablesOf d) (kOf d) (tOf d) (esisOf d) (symbolsOf d) p c
+      ∙ ap (λ (x : ℕ). sentRow (tablesOf d) (rowIn d) (kOf d) x c) esi-is
+      ∙ ap (λ (x : ℕ). encOf (tablesOf d) (rowIn d) x c) (shifted-below (kOf d) (rowIn d .k) (esiAt d (tOf d) p) l)
 
   -- and its symbol is what stands in the packet
-  byte-is : deliveredSystem d .byte (fixed (rowAt d) (kOf d) + p) b ≡ getD d (packetAt (tOf d) p + 4 + b) 0
+  byte-is : deliveredSystem d .byte (fixed (rowIn d) (kOf d) + p) b ≡ getD d (packetAt (tOf d) p + 4 + b) 0
   unfolding symbolsOf octetAt
   byte-is =
-      arrival-byte (rowAt d) (tablesOf d) (kOf d) (tOf d) (esisOf d) (symbolsOf d) p b
+      arrival-byte (rowIn d) (tablesOf d) (kOf d) (tOf d) (esisOf d) (symbolsOf d) p b
       ∙ getD-tabulate (nOf d * tOf d) (octetAt d (tOf d)) (p * tOf d + b) (digits-lt h s)
       ∙ ap₂ (λ (x y : ℕ). getD d (packetAt (tOf d) x + 4 + y) 0) (digits-div p s) (digits-mod p s)
 
-  counted : fixed (rowAt d) (kOf d) + p < deliveredSystem d .count
+  counted : fixed (rowIn d) (kOf d) + p < deliveredSystem d .count
   unfolding esisOf
   counted = omega (arith, length-tabulate (nOf d) (esiAt d (tOf d)))
 
   -- byte b of the source symbol that packet p brought
-  pub arrived : {xs ys : List ℕ} {n : ℕ} → Comes d xs ys (Object n) → getD ys (esiAt d (tOf d) p * tOf d + b) 0 ≡ getD d (packetAt (tOf d) p + 4 + b) 0
-  arrived {ys = ys} a =
+  pub arrivals-stand : {xs ys : List ℕ} {n : ℕ} → Comes d xs ys (Taken Solved n) → getD ys (esiAt d (tOf d) p * tOf d + b) 0 ≡ getD d (packetAt (tOf d) p + 4 + b) 0
+  arrivals-stand {ys = ys} a =
       let w = a .1 .1 in
+      let C = take (lOf (rowIn d) * tOf d) (w .set) in
       let i = esiAt d (tOf d) p in
-      ap (λ (x : ℕ). getD ys x 0) (sym (zero-add (i * tOf d + b))) ∙ w .block .part (i * tOf d + b) (digits-lt l s)
-      ∙ ap₂ (λ (x y : ℕ). encoded (tablesOf d) (rowAt d) x (tOf d) (w .set) y) (digits-div i s) (digits-mod i s)
-      ∙ encoded-fits (tablesOf d) (rowAt d) i (tOf d) (w .set) (deliveredSystem d) (w .solved .fits) (fixed (rowAt d) (kOf d) + p) counted row-is b s
+      ap (λ (x : ℕ). getD ys x 0) (sym (zero-add (i * tOf d + b))) ∙ w .leaves .part (i * tOf d + b) (digits-lt l s)
+      ∙ ap₂ (λ (x y : ℕ). encoded (tablesOf d) (rowIn d) x (tOf d) C y) (digits-div i s) (digits-mod i s)
+      ∙ encoded-fits (tablesOf d) (rowIn d) i (tOf d) C (deliveredSystem d) (w .means .0 .fits) (fixed (rowIn d) (kOf d) + p) counted row-is b s
       ∙ byte-is

@@ -20,7 +20,7 @@ use Rattle.headers.specs.declared.transmission.ObjectTransmissionInformation.{O
 use Rattle.headers.proofs.Accepted.{obeys-tells}
 use Rattle.headers.proofs.Tests.{Tells, tells-eq, tells-both, tells-as, is-true, is-false}
 use Rattle.solver.specs.System.{fixed}
-use Rattle.delivery.specs.Layout.{OneBlock, infoOf, rowAt, tOf, kOf, countOf, packet, packetAt}
+use Rattle.delivery.specs.Layout.{OneBlock, infoOf, rowIn, tOf, kOf, countOf, packet, packetAt}
 use Rattle.delivery.specs.Screen.{screened, oneBlock, shapeScreen, infoScreen, rowScreen, lengthScreen, packetsScreen, restScreen, screen}
 use Rattle.delivery.specs.declared.beneath.screen.Stop.{Stop}
 use Rattle.delivery.specs.declared.beneath.screen.Screened.{Screened}
@@ -102,20 +102,20 @@ length-sound len t fixed e =
 
 pub record Sound (d : List ℕ) : Type 0 where
   pub t-low : 0 < tOf d
-  pub row : RowSound (rowAt d) (kOf d) (tOf d)
-  pub packets : LengthSound (length d) (tOf d) (fixed (rowAt d) (kOf d))
+  pub row : RowSound (rowIn d) (kOf d) (tOf d)
+  pub packets : LengthSound (length d) (tOf d) (fixed (rowIn d) (kOf d))
 
 pub sound : (d : List ℕ) → screen d ≡ given tt → Sound d
 unfolding screen
 sound d e =
     let p1 = passed (ltb (length d) 32) 8 _ tt e in
     let p2 = passed-before (infoScreen (infoOf d)) (restScreen d (kOf d) (tOf d)) tt (p1 .1) in
-    let p3 = passed-before (rowScreen (rowAt d) (kOf d) (tOf d)) (packetsScreen d (rowAt d) (kOf d) (tOf d)) tt (p2 .2) in
-    let p4 = passed-before (lengthScreen (length d) (tOf d) (fixed (rowAt d) (kOf d))) _ tt (p3 .2) in
+    let p3 = passed-before (rowScreen (rowIn d) (kOf d) (tOf d)) (packetsScreen d (rowIn d) (kOf d) (tOf d)) tt (p2 .2) in
+    let p4 = passed-before (lengthScreen (length d) (tOf d) (fixed (rowIn d) (kOf d))) _ tt (p3 .2) in
     record {
       t-low = size-low (infoOf d) (p2 .1);
-      row = row-sound (rowAt d) (kOf d) (tOf d) (p3 .1);
-      packets = length-sound (length d) (tOf d) (fixed (rowAt d) (kOf d)) (p4 .1);
+      row = row-sound (rowIn d) (kOf d) (tOf d) (p3 .1);
+      packets = length-sound (length d) (tOf d) (fixed (rowIn d) (kOf d)) (p4 .1);
     }
 
 -- ---- the ways out of the whole screen
@@ -141,13 +141,13 @@ module _ (d : List ℕ) where
         ∙ sym (went-past x (q ∙ ap infoScreen e) (restScreen d (kOf d) (tOf d)) s))
 
   -- past the row
-  module _ (r : Row) (e : r ≡ rowAt d) (k t : ℕ) (x : Screened) (q : screened x ≡ rowScreen r k t) where
+  module _ (r : Row) (e : r ≡ rowIn d) (k t : ℕ) (x : Screened) (q : screened x ≡ rowScreen r k t) where
     pub row-stopped : (why : Stop) → x ≡ Screeneds.Stopped why → screened x ≡ restScreen d k t
-    row-stopped why s = stopped-at x (q ∙ ap (λ (y : Row). rowScreen y k t) e) (packetsScreen d (rowAt d) k t) why s
+    row-stopped why s = stopped-at x (q ∙ ap (λ (y : Row). rowScreen y k t) e) (packetsScreen d (rowIn d) k t) why s
 
     pub row-passed : {y : Outcome (Unit {0})} → x ≡ Screeneds.Passed → y ≡ packetsScreen d r k t → y ≡ restScreen d k t
     row-passed s u =
-        u ∙ ap (λ (y : Row). packetsScreen d y k t) e ∙ sym (went-past x (q ∙ ap (λ (y : Row). rowScreen y k t) e) (packetsScreen d (rowAt d) k t) s)
+        u ∙ ap (λ (y : Row). packetsScreen d y k t) e ∙ sym (went-past x (q ∙ ap (λ (y : Row). rowScreen y k t) e) (packetsScreen d (rowIn d) k t) s)
 
   -- past the length
   module _ (r : Row) (k t : ℕ) (x : Screened) (q : screened x ≡ lengthScreen (length d) t (fixed r k)) (s : x ≡ Screeneds.Passed) (n : ℕ)

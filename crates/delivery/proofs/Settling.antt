@@ -8,48 +8,33 @@ use native.Mathlib.Omega.{arith}
 use borrow.Author.Tests.{le-ltb, eq-eqb, ne-eqb, lt-leb}
 use lib.ListN.{length, getD, take}
 use lib.Seq.{take-all, length-take-le}
-use Rattle.io.specs.Counts.{Counts}
 use Rattle.field.specs.Answer.{given, numberOf}
 use Rattle.field.proofs.Answers.{given-not-refused}
 use Rattle.field.specs.Runs.{Written}
 use Rattle.headers.specs.Row.{lOf}
 use Rattle.headers.specs.declared.row.Row.{Row}
 use Rattle.headers.proofs.Accepted.{obeyed}
-use Rattle.headers.proofs.Quotient.{ceil-enough}
 use Rattle.linear.specs.Bytes.{Bytes, tabulate}
 use Rattle.linear.proofs.Bytes.{length-tabulate, getD-tabulate}
-use Rattle.linear.specs.System.{System}
-use Rattle.elimination.specs.Verdict.{Means}
 use Rattle.elimination.specs.declared.verdict.Verdict.{Verdict}
-use Rattle.elimination.specs.declared.verdict.Verdict.the-variants as Verdicts
-use Rattle.solver.specs.System.{Solves, admitted, equations, systemOf}
+use Rattle.solver.specs.System.{Solves, admitted, equations}
 use Rattle.solver.specs.Display.{anyLarge}
 use Rattle.solver.specs.declared.solver.Solution.{Solution}
 use Rattle.solver.specs.declared.solver.Solution.the-variants as Solutions
 use Rattle.solver.proofs.Displays.{large-none}
 use Rattle.field.specs.declared.refusal.Refusal.{Refusal}
-use Rattle.delivery.specs.Layout.{rowAt, entryAt, tablesOf, fOf, kOf, tOf, nOf, countOf, packetAt, esiAt, octetAt, esisOf, symbolsOf}
+use Rattle.delivery.specs.Layout.{rowIn, entryAt, tablesOf, fOf, kOf, tOf, nOf, countOf, packetAt, esiAt, octetAt, esisOf, symbolsOf}
 use Rattle.delivery.specs.Screen.{screen}
-use Rattle.delivery.specs.Words.{Line, Said}
-use Rattle.delivery.specs.Received.{Comes, Holdable, Leaves, Settles, Settled, outcomeOf}
-use Rattle.delivery.specs.declared.beneath.receiver.Outcome.{Outcome}
-use Rattle.delivery.specs.declared.beneath.receiver.Outcome.the-variants as Outcomes
+use Rattle.delivery.specs.Received.{Comes, Concludes, Heard, Holdable, Leaves, Roomy}
+use Rattle.delivery.specs.declared.beneath.receiver.Received.{Received}
+use Rattle.delivery.specs.declared.beneath.receiver.Received.the-variants.{Taken, Stopped}
 use Rattle.delivery.proofs.Lists.{tabulated}
 use Rattle.delivery.proofs.Screening.{Sound, sound, packets-in}
 use Rattle.delivery.proofs.Gathering.{esi-small}
 
--- a verdict under another name
-pub finished : (v : List ℕ) (r : Row) (k t f : ℕ) (C xs ys : List ℕ) (w : Verdict) {u : Verdict} → u ≡ w → Leaves v r k t C xs ys w
-    → (outcomeOf f w ≡ outcomeOf f u) × Leaves v r k t C xs ys u
-finished v r k t f C xs ys w e h = (ap (outcomeOf f) (sym e), subst (Leaves v r k t C xs ys) (sym e) h)
-
--- what the verdict says, and what was left, is what comes of the system
-pub settles : (r : Row) (v : List ℕ) (k t f : ℕ) (S : System ℕ) (o o₁ xs ys : List ℕ) (w : Verdict) → Means (lOf r) t S o o₁ w
-    → Leaves v r k t (take (lOf r * t) o₁) xs ys w
-    → Settles r v k t f S xs ys (outcomeOf f w)
-settles r v k t f S o o₁ xs ys Verdicts.Solved m h = (refl, record { set = take (lOf r * t) o₁; solved = m .0; block = h })
-settles r v k t f S o o₁ xs ys Verdicts.Contradiction m h = (m .0, h)
-settles r v k t f S o o₁ xs ys (Verdicts.Open s) m h = (m .0, m .1, h)
+-- what was left for a verdict, under another name of it
+pub left : (v : List ℕ) (r : Row) (k t : ℕ) (C xs ys : List ℕ) (w : Verdict) {u : Verdict} → u ≡ w → Leaves v r k t C xs ys w → Leaves v r k t C xs ys u
+left v r k t C xs ys w e h = subst (Leaves v r k t C xs ys) (sym e) h
 
 module _ {r : Row} {v : List ℕ} {k t : ℕ} {es xs : List ℕ} (h : Holdable r v k t es xs) where
   pub rows-fit : equations r k (length es) * lOf r ≤ 108000
@@ -65,8 +50,8 @@ module _ {r : Row} {v : List ℕ} {k t : ℕ} {es xs : List ℕ} (h : Holdable r
   block-fits = mul-le-mul {n₁ = k} {m₁ = t} {n₂ = 300} {m₂ = 1024} (omega (arith, h .k-high, h .l-high)) (h .t-high)
 
   -- the solver takes it
-  pub admitted-is : (a d o : List ℕ) → 108000 ≤ length a → 368640 ≤ length d → 307200 ≤ length o → admitted r v k t es xs a d o ≡ given tt
-  admitted-is a d o p q s =
+  pub admitted-is : {n : ℕ} (a d o : List ℕ) → Roomy (length a) (length d) (length o) n → admitted r v k t es xs a d o ≡ given tt
+  admitted-is a d o p =
       let n : anyLarge es ≡ _ = large-none es (λ i b. lt-leb 16777216 (getD es i 0) (h .small i b)) in
       simp (
         obeyed (h .rules),
@@ -77,26 +62,25 @@ module _ {r : Row} {v : List ℕ} {k t : ℕ} {es xs : List ℕ} (h : Holdable r
         le-ltb 65535 (length es) (omega (arith, h .few)),
         ne-eqb t 0 (omega (arith, h .t-low)),
         eq-eqb (length xs) (length es * t) (h .whole),
-        le-ltb (length a) (equations r k (length es) * lOf r) (omega (arith, rows-fit)),
-        le-ltb (length d) (equations r k (length es) * t) (omega (arith, symbols-fit)),
-        le-ltb (length o) (lOf r * t) (omega (arith, set-fits)),
+        le-ltb (length a) (equations r k (length es) * lOf r) (omega (arith, rows-fit, p .rows-room)),
+        le-ltb (length d) (equations r k (length es) * t) (omega (arith, symbols-fit, p .values-room)),
+        le-ltb (length o) (lOf r * t) (omega (arith, set-fits, p .set-room)),
       )
 
-  pub never-refused : (a d o a₁ d₁ o₁ : List ℕ) (x : Solution) (why : Refusal) → 108000 ≤ length a → 368640 ≤ length d → 307200 ≤ length o
+  pub never-refused : {n : ℕ} (a d o a₁ d₁ o₁ : List ℕ) (x : Solution) (why : Refusal) → Roomy (length a) (length d) (length o) n
       → Solves r v k t es xs a d o a₁ d₁ o₁ x → x ≡ Solutions.Refused why → ⊥
-  never-refused a d o a₁ d₁ o₁ x why p q s u e =
+  never-refused a d o a₁ d₁ o₁ x why p u e =
       let w = subst (Solves r v k t es xs a d o a₁ d₁ o₁) e u in
-      given-not-refused tt (numberOf why) (sym (admitted-is a d o p q s) ∙ w .0)
+      given-not-refused tt (numberOf why) (sym (admitted-is a d o p) ∙ w .0)
 
 -- the solver's answer, and what was left
-pub decoded : (r : Row) (v : List ℕ) (k t f : ℕ) (es zs a d o a₁ d₁ o₁ xs ys : List ℕ) (x : Solution) (w : Verdict) (out : Outcome) (l : ℕ) → l ≡ lOf r * t
+pub decoded : (r : Row) (v : List ℕ) (k t f : ℕ) (es zs a d o a₁ d₁ o₁ xs ys : List ℕ) (x : Solution) (w : Verdict) (l : ℕ) → l ≡ lOf r * t
     → Solves r v k t es zs a d o a₁ d₁ o₁ x → x ≡ Solutions.Given w
-    → (out ≡ outcomeOf f w) × Leaves v r k t (take l o₁) xs ys w
-    → Settles r v k t f (systemOf r v k t es zs) xs ys out
-decoded r v k t f es zs a d o a₁ d₁ o₁ xs ys x w out n q u e l =
+    → Leaves v r k t (take l o₁) xs ys w
+    → Concludes r v k t f es zs xs ys (Taken w f)
+decoded r v k t f es zs a d o a₁ d₁ o₁ xs ys x w n q u e l =
     let g = subst (Solves r v k t es zs a d o a₁ d₁ o₁) e u in
-    subst (Settles r v k t f (systemOf r v k t es zs) xs ys) (sym (l .0)) (settles r v k t f (systemOf r v k t es zs) o o₁ xs ys w (g .1)
-    (subst (λ (m : ℕ). Leaves v r k t (take m o₁) xs ys w) q (l .1)))
+    (refl, record { was = o; set = o₁; means = g .1; leaves = subst (λ (m : ℕ). Leaves v r k t (take m o₁) xs ys w) q l })
 
 -- ---- a delivery that passes the screen
 
@@ -148,7 +132,7 @@ unfolding tablesOf
 tables-are d {xs} {ys} w e = sym (take-all 1024 ys (omega (arith, w .size))) ∙ tabulated w (omega arith)
 
 -- its system is one that the stores hold
-pub holdable : (d v : List ℕ) → Sound d → Bytes d → length v ≡ 1024 → Holdable (rowAt d) v (kOf d) (tOf d) (esisOf d) (symbolsOf d)
+pub holdable : (d v : List ℕ) → Sound d → Bytes d → length v ≡ 1024 → Holdable (rowIn d) v (kOf d) (tOf d) (esisOf d) (symbolsOf d)
 unfolding esisOf symbolsOf
 holdable d v h b e =
     let l : length (tabulate (nOf d) (esiAt d (tOf d))) ≡ nOf d = length-tabulate (nOf d) (esiAt d (tOf d)) in
@@ -173,41 +157,20 @@ held-as {r} {q} {v} {k} {l} {t} {u} {es} {fs} {xs} {ys} a b c e f h0 =
     let h4 = subst (λ (x : List ℕ). Holdable r v k t x ys) (sym e) h3 in
     subst (λ (x : List ℕ). Holdable r v k t es x) (sym f) h4
 
--- what comes of a system that is the delivery's
-pub delivered : (d : List ℕ) {r : Row} {v : List ℕ} {k t f : ℕ} {es zs : List ℕ} (xs ys : List ℕ) (out : Outcome) → r ≡ rowAt d → v ≡ tablesOf d → k ≡ kOf d → t ≡ tOf d
+-- what comes of a block that is the delivery's
+pub delivered : (d : List ℕ) {r : Row} {v : List ℕ} {k t f : ℕ} {es zs : List ℕ} (xs ys : List ℕ) (out : Received) → r ≡ rowIn d → v ≡ tablesOf d → k ≡ kOf d → t ≡ tOf d
     → f ≡ fOf d → es ≡ esisOf d → zs ≡ symbolsOf d
-    → Settles r v k t f (systemOf r v k t es zs) xs ys out
-    → Settled d xs ys out
+    → Concludes r v k t f es zs xs ys out
+    → Heard d xs ys out
 delivered d {r} {v} {k} {t} {f} {es} {zs} xs ys out a b c e g h i s0 =
-    let s1 = subst (λ (x : Row). Settles x v k t f (systemOf x v k t es zs) xs ys out) a s0 in
-    let s2 = subst (λ (x : List ℕ). Settles (rowAt d) x k t f (systemOf (rowAt d) x k t es zs) xs ys out) b s1 in
-    let s3 = subst (λ (x : ℕ). Settles (rowAt d) (tablesOf d) x t f (systemOf (rowAt d) (tablesOf d) x t es zs) xs ys out) c s2 in
-    let s4 = subst (λ (x : ℕ). Settles (rowAt d) (tablesOf d) (kOf d) x f (systemOf (rowAt d) (tablesOf d) (kOf d) x es zs) xs ys out) e s3 in
-    let s5 = subst (λ (x : ℕ). Settles (rowAt d) (tablesOf d) (kOf d) (tOf d) x (systemOf (rowAt d) (tablesOf d) (kOf d) (tOf d) es zs) xs ys out) g s4 in
-    let s6 = subst (λ (x : List ℕ). Settles (rowAt d) (tablesOf d) (kOf d) (tOf d) (fOf d) (systemOf (rowAt d) (tablesOf d) (kOf d) (tOf d) x zs) xs ys out) h s5 in
-    subst (λ (x : List ℕ). Settles (rowAt d) (tablesOf d) (kOf d) (tOf d) (fOf d) (systemOf (rowAt d) (tablesOf d) (kOf d) (tOf d) (esisOf d) x) xs ys out) i s6
+    let s1 = subst (λ (x : Row). Concludes x v k t f es zs xs ys out) a s0 in
+    let s2 = subst (λ (x : List ℕ). Concludes (rowIn d) x k t f es zs xs ys out) b s1 in
+    let s3 = subst (λ (x : ℕ). Concludes (rowIn d) (tablesOf d) x t f es zs xs ys out) c s2 in
+    let s4 = subst (λ (x : ℕ). Concludes (rowIn d) (tablesOf d) (kOf d) x f es zs xs ys out) e s3 in
+    let s5 = subst (λ (x : ℕ). Concludes (rowIn d) (tablesOf d) (kOf d) (tOf d) x es zs xs ys out) g s4 in
+    let s6 = subst (λ (x : List ℕ). Concludes (rowIn d) (tablesOf d) (kOf d) (tOf d) (fOf d) x zs xs ys out) h s5 in
+    subst (λ (x : List ℕ). Concludes (rowIn d) (tablesOf d) (kOf d) (tOf d) (fOf d) (esisOf d) x xs ys out) i s6
 
-pub came : (d xs ys : List ℕ) (out : Outcome) → screen d ≡ given tt → Settled d xs ys out → Comes d xs ys out
-came d xs ys (Outcomes.Object n) e s = (e, s)
-came d xs ys Outcomes.Contradiction e s = (e, s)
-came d xs ys (Outcomes.Open n) e s = (e, s)
-came d xs ys (Outcomes.Stopped why) e s = absurd s
-
--- ---- what is said fits the store
-
-counts : {r : ℕ} (ys : List ℕ) → r ≤ length ys → Counts r ys
-counts {r} ys h = (h, sym (length-take-le r ys h))
-
-of-line : {ws xs ys : List ℕ} {r : ℕ} → Line ws xs ys r → Counts r ys
-of-line {ys = ys} u = counts ys (omega (arith, u .count, u .room, u .laid .size))
-
-pub counted : (d xs zs ys : List ℕ) (r : ℕ) (out : Outcome) → 307200 ≤ length zs → Comes d xs zs out → Said zs ys r out → Counts r ys
-counted d xs zs ys r (Outcomes.Object n) l u w =
-    let h = sound d (u .0) in
-    let k : kOf d * tOf d ≤ 307200 =
-    mul-le-mul {n₁ = kOf d} {m₁ = tOf d} {n₂ = 300} {m₂ = 1024} (omega (arith, h .row .k-high, h .row .l-high)) (h .row .t-high)
-    in
-    counts ys (omega (arith, w .0, u .1 .0, ceil-enough (fOf d) (tOf d) (h .t-low), ap length (w .1)))
-counted d xs zs ys r Outcomes.Contradiction l u w = of-line w
-counted d xs zs ys r (Outcomes.Open s) l u w = of-line w
-counted d xs zs ys r (Outcomes.Stopped why) l u w = of-line w
+pub came : (d xs ys : List ℕ) (out : Received) → screen d ≡ given tt → Heard d xs ys out → Comes d xs ys out
+came d xs ys (Taken w n) e s = (e, s)
+came d xs ys (Stopped why) e s = absurd s

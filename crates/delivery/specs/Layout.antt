@@ -26,8 +26,8 @@ abbrev pub kOf : List ℕ → ℕ
 kOf d = ceil (fOf d) (tOf d)
 
 -- K', J, S, H, W: four bytes each
-unfoldable pub rowAt : List ℕ → Row
-rowAt d = record { kp = number d 12 4; j = number d 16 4; s = number d 20 4; h = number d 24 4; w = number d 28 4 }
+unfoldable pub rowIn : List ℕ → Row
+rowIn d = record { kp = number d 12 4; j = number d 16 4; s = number d 20 4; h = number d 24 4; w = number d 28 4 }
 
 -- the random tables: 1,024 numbers of four bytes
 abbrev pub entryAt : List ℕ → ℕ → ℕ

@@ -2,4 +2,3 @@
 pub mod Layout
 pub mod Screen
 pub mod Received
-pub mod Words

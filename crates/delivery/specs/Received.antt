@@ -3,21 +3,21 @@
 use mathlib.Core.Path.{_≡_}
 use mathlib.Core.List.{List}
 use Prim.Native.Nat.{ℕ, _*_, _/_, _%_, _≤_, _<_}
-use lib.ListN.{length, getD}
+use lib.ListN.{length, getD, take}
 use Rattle.field.specs.Answer.{given, refused}
 use Rattle.field.specs.Runs.{Written}
 use Rattle.headers.specs.Row.{Obeys, lOf}
 use Rattle.headers.specs.declared.row.Row.{Row}
 use Rattle.linear.specs.System.{System}
-use Rattle.linear.specs.Bytes.{SolvedBytes, ContradictionBytes, OpenBytes, ShortfallBytes}
 use Rattle.encoding.specs.Encoded.{encoded}
+use Rattle.elimination.specs.Verdict.{Means}
 use Rattle.elimination.specs.declared.verdict.Verdict.{Verdict}
-use Rattle.elimination.specs.declared.verdict.Verdict.the-variants as Verdicts
+use Rattle.elimination.specs.declared.verdict.Verdict.the-variants.{Solved, Contradiction, Open}
 use Rattle.solver.specs.System.{equations, systemOf}
-use Rattle.delivery.specs.Layout.{rowAt, tablesOf, fOf, kOf, tOf, esisOf, symbolsOf}
+use Rattle.delivery.specs.Layout.{rowIn, tablesOf, fOf, kOf, tOf, esisOf, symbolsOf}
 use Rattle.delivery.specs.Screen.{screen, stopOf}
-use Rattle.delivery.specs.declared.beneath.receiver.Outcome.{Outcome}
-use Rattle.delivery.specs.declared.beneath.receiver.Outcome.the-variants.{Object, Contradiction, Open, Stopped}
+use Rattle.delivery.specs.declared.beneath.receiver.Received.{Received}
+use Rattle.delivery.specs.declared.beneath.receiver.Received.the-variants.{Taken, Stopped}
 
 -- byte x of the source symbols, one after the other: the ISIs below K are theirs (RFC 6330, 5.3.3.4.2 and 5.3.5.3)
 abbrev pub sourceOctet : List ℕ → Row → ℕ → List ℕ → ℕ → ℕ
@@ -45,41 +45,41 @@ pub record Holdable (r : Row) (v : List ℕ) (k t : ℕ) (es xs : List ℕ) : Ty
   pub small : (i : ℕ) → i < length es → getD es i 0 < 16777216
   pub whole : length xs ≡ length es * t
 
--- the outcome of a verdict, for an object of f bytes
-abbrev pub outcomeOf : ℕ → Verdict → Outcome
-outcomeOf f Verdicts.Solved = Object f
-outcomeOf f Verdicts.Contradiction = Contradiction
-outcomeOf f (Verdicts.Open s) = Open s
+-- what solving asks beside: stores of so many octets for the solver's rows and symbols and for the set, and the store of the block
+pub record Roomy (rows values set out : ℕ) : Type 0 where
+  pub rows-room : 108000 ≤ rows
+  pub values-room : 368640 ≤ values
+  pub set-room : 307200 ≤ set
+  pub out-room : 307200 ≤ out
 
 -- the source symbols at the front of the store, or the store as it was
 abbrev pub Leaves : List ℕ → Row → ℕ → ℕ → (C xs ys : List ℕ) → Verdict → Type 0
-Leaves v r k t C xs ys Verdicts.Solved = Written (sourceOctet v r t C) xs ys 0 (k * t)
-Leaves v r k t C xs ys Verdicts.Contradiction = ys ≡ xs
-Leaves v r k t C xs ys (Verdicts.Open s) = ys ≡ xs
+Leaves v r k t C xs ys Solved = Written (sourceOctet v r t C) xs ys 0 (k * t)
+Leaves v r k t C xs ys Contradiction = ys ≡ xs
+Leaves v r k t C xs ys (Open s) = ys ≡ xs
 
--- the single set that fits, and its K source symbols of T bytes at the front of the store: the object and its padding
-pub record Rebuilt (r : Row) (v : List ℕ) (k t : ℕ) (S : System ℕ) (xs ys : List ℕ) : Type 0 where
+-- A verdict on the system S of a block: what it means is the solver's word, of its store of symbols before, `was`, and after, `set`. The K source symbols
+-- of a set that is solved, the object and its padding, stand at the front of our store, xs before and ys after.
+pub record Concluded (r : Row) (v : List ℕ) (k t : ℕ) (S : System ℕ) (xs ys : List ℕ) (verdict : Verdict) : Type 0 where
+  pub was : List ℕ
   pub set : List ℕ
-  pub solved : SolvedBytes (lOf r) t S set
-  pub block : Written (sourceOctet v r t set) xs ys 0 (k * t)
+  pub means : Means (lOf r) t S was set verdict
+  pub leaves : Leaves v r k t (take (lOf r * t) set) xs ys verdict
 
--- what comes of the system S of a block; xs is the store before, ys after
-abbrev pub Settles : Row → List ℕ → (k t f : ℕ) → System ℕ → (xs ys : List ℕ) → Outcome → Type 0
-Settles r v k t f S xs ys (Object n) = (n ≡ f) × Rebuilt r v k t S xs ys
-Settles r v k t f S xs ys Contradiction = ContradictionBytes (lOf r) t S × (ys ≡ xs)
-Settles r v k t f S xs ys (Open s) = OpenBytes (lOf r) t S × ShortfallBytes (lOf r) t S s × (ys ≡ xs)
-Settles r v k t f S xs ys (Stopped why) = ⊥
+-- what comes of a block of f bytes whose packets have the ESIs es and the symbols zs
+abbrev pub Concludes : Row → List ℕ → (k t f : ℕ) → (es zs xs ys : List ℕ) → Received → Type 0
+Concludes r v k t f es zs xs ys (Taken verdict n) = (n ≡ f) × Concluded r v k t (systemOf r v k t es zs) xs ys verdict
+Concludes r v k t f es zs xs ys (Stopped why) = ⊥
 
 -- the system of a delivery: that of its row, tables, K, T, ESIs and symbols
 abbrev pub deliveredSystem : List ℕ → System ℕ
-deliveredSystem d = systemOf (rowAt d) (tablesOf d) (kOf d) (tOf d) (esisOf d) (symbolsOf d)
+deliveredSystem d = systemOf (rowIn d) (tablesOf d) (kOf d) (tOf d) (esisOf d) (symbolsOf d)
 
-abbrev pub Settled : (d xs ys : List ℕ) → Outcome → Type 0
-Settled d xs ys = Settles (rowAt d) (tablesOf d) (kOf d) (tOf d) (fOf d) (deliveredSystem d) xs ys
+-- what comes of a delivery that is taken
+abbrev pub Heard : (d xs ys : List ℕ) → Received → Type 0
+Heard d xs ys = Concludes (rowIn d) (tablesOf d) (kOf d) (tOf d) (fOf d) (esisOf d) (symbolsOf d) xs ys
 
--- The contract. A delivery that is not taken changes nothing; one that is taken answers for its system.
-abbrev pub Comes : (d xs ys : List ℕ) → Outcome → Type 0
-Comes d xs ys (Object n) = (screen d ≡ given tt) × Settled d xs ys (Object n)
-Comes d xs ys Contradiction = (screen d ≡ given tt) × Settled d xs ys Contradiction
-Comes d xs ys (Open s) = (screen d ≡ given tt) × Settled d xs ys (Open s)
+-- The contract. A delivery that is not taken changes nothing; one that is taken has the verdict on its system.
+abbrev pub Comes : (d xs ys : List ℕ) → Received → Type 0
+Comes d xs ys (Taken verdict n) = (screen d ≡ given tt) × Heard d xs ys (Taken verdict n)
 Comes d xs ys (Stopped why) = (screen d ≡ refused (stopOf why)) × (ys ≡ xs)

@@ -12,7 +12,7 @@ use Rattle.headers.specs.Row.{obeys, lOf}
 use Rattle.headers.specs.declared.row.Row.{Row}
 use Rattle.headers.specs.declared.transmission.ObjectTransmissionInformation.{ObjectTransmissionInformation}
 use Rattle.solver.specs.System.{fixed}
-use Rattle.delivery.specs.Layout.{infoOf, rowAt, tOf, kOf, countOf, packet, packetAt}
+use Rattle.delivery.specs.Layout.{infoOf, rowIn, tOf, kOf, countOf, packet, packetAt}
 use Rattle.delivery.specs.declared.beneath.screen.Stop.{Stop}
 use Rattle.delivery.specs.declared.beneath.screen.Stop.the-variants as Stops
 use Rattle.delivery.specs.declared.beneath.screen.Screened.{Screened}
@@ -58,7 +58,7 @@ packetsScreen d r k t =
     before (lengthScreen (length d) t (fixed r k)) (unless (not (oneBlock d t (countOf (length d) t))) 103 (given tt))
 
 abbrev pub restScreen : List ℕ → ℕ → ℕ → Outcome (Unit {0})
-restScreen d k t = before (rowScreen (rowAt d) k t) (packetsScreen d (rowAt d) k t)
+restScreen d k t = before (rowScreen (rowIn d) k t) (packetsScreen d (rowIn d) k t)
 
 unfoldable pub screen : List ℕ → Outcome (Unit {0})
 screen d = unless (ltb (length d) 32) 8 (before (infoScreen (infoOf d)) (restScreen d (kOf d) (tOf d)))

@@ -1,13 +1,42 @@
-// Reads a delivery on standard input and writes its source block, or one line that says why not (docs/DELIVERY.md).
-use delivery::beneath::deliver;
-use libc::STDIN_FILENO;
-use libc::STDOUT_FILENO;
+// Reads a delivery on standard input and writes its object to standard output, or to the file OUT that its one argument names. What it has to say instead
+// goes to standard error (docs/DELIVERY.md).
+mod input;
+mod output;
 
-// A delivery that fills the input is never taken (`longest`), so none that was cut there is taken for a whole one.
+ghost use Prim.Native.Nat.{_≤_};
+ghost use lib.ListN.{length};
+use input::Input;
+use libc::STDIN_FILENO;
+use reply::beneath::replying;
+use reply::beneath::target;
+use reply::beneath::target::Target;
+use reply::beneath::words::Failure;
+
+// `out` is the name of OUT, or empty for standard output. A delivery that fills the store is never taken (`longest`), so none that was cut there is taken
+// for a whole one.
+fn receive(out: &[u8])
+    requires { ⌜ length (now out) ≤ 4000 ⌝ }
+{
+    let mut bytes = [0u8; 375236];
+    let read = input::read_all(STDIN_FILENO, &mut bytes);
+    let Input::All(n) = read else {
+        output::fail(Failure::Reading);
+        return;
+    };
+    let mut store = [0u8; 307200];
+    let reply = replying::reply_to(&bytes[..n], &mut store);
+    output::write(reply, &store, out);
+}
+
 fn main() {
-    let mut input = [0u8; 375236];
-    let n = io::read_full(STDIN_FILENO, &mut input);
-    let mut out = [0u8; 307200];
-    let len = deliver::deliver(&input[..n], &mut out);
-    io::write_all(STDOUT_FILENO, &out[..len]);
+    let mut name = [0u8; 4000];
+    let count = os::arg_count();
+    let n = os::arg(1, &mut name);
+    let whole = os::errno() == 0;
+    let target = target::from_arguments(count, whole, n);
+    match target {
+        Target::Output => receive(b""),
+        Target::File => receive(&name[..n]),
+        Target::Misused(why) => output::misused(why),
+    }
 }

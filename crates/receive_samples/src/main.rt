@@ -1,17 +1,39 @@
-// The receiving program's work on each delivery of data/, which differential/samples makes, with what each has to come to (`stdout`).
-use delivery::beneath::deliver;
+// The receiving program's work on each delivery of data/, which differential/samples makes. For each its name, what it comes to (the bytes of an object,
+// for standard output, or words, for standard error), how many bytes that is, and these bytes.
+ghost use Rattle.reply.specs.Replies.{AtFront};
 use libc::STDOUT_FILENO;
+use reply::beneath::replying;
+use reply::beneath::replying::Reply;
+
+fn part(label: &[u8], bytes: &[u8]) {
+    io::write_all(STDOUT_FILENO, label);
+    io::print_decimal(STDOUT_FILENO, bytes.len() as u64);
+    io::write_all(STDOUT_FILENO, b" bytes\n");
+    io::write_all(STDOUT_FILENO, bytes);
+}
+
+fn show(reply: Reply, store: &[u8])
+    requires { ⌜ AtFront reply (now store) ⌝ }
+{
+    match reply {
+        Reply::Object(n) => part(b": object, ", &store[..n]),
+        Reply::Words(n) => part(b": words, ", &store[..n]),
+    }
+}
 
 fn sample(name: &[u8]) {
     io::write_all(STDOUT_FILENO, name);
-    io::write_all(STDOUT_FILENO, b"\n");
     let fd = os::open_read(name);
+    if fd < 0 {
+        io::write_all(STDOUT_FILENO, b": cannot be opened\n");
+        return;
+    }
     let mut input = [0u8; 375236];
     let n = io::read_full(fd, &mut input);
     libc::close(fd);
-    let mut out = [0u8; 307200];
-    let len = deliver::deliver(&input[..n], &mut out);
-    io::write_all(STDOUT_FILENO, &out[..len]);
+    let mut store = [0u8; 307200];
+    let reply = replying::reply_to(&input[..n], &mut store);
+    show(reply, &store);
 }
 
 fn answered() {
@@ -19,6 +41,7 @@ fn answered() {
     sample(b"repaired");
     sample(b"repair-only");
     sample(b"twice");
+    sample(b"one-line");
     sample(b"open");
     sample(b"no-packets");
     sample(b"wrong-symbol");

@@ -4,7 +4,7 @@ ghost use Prim.Native.Nat.{_+_, _≤_};
 ghost use lib.ListN.{length};
 ghost use Rattle.field.specs.Runs.{Written};
 ghost use Rattle.headers.specs.Bytes.{number};
-ghost use Rattle.delivery.specs.Layout.{entryAt, infoOf, rowAt};
+ghost use Rattle.delivery.specs.Layout.{entryAt, infoOf, rowIn};
 use headers::beneath::big_endian;
 use headers::beneath::transmission;
 use headers::row::Row;
@@ -26,7 +26,7 @@ pub fn info(bytes: &[u8]) -> ObjectTransmissionInformation
 
 pub fn row(bytes: &[u8]) -> Row
     requires { ⌜ 32 ≤ length (now bytes) ⌝ }
-    ensures { λ r. ⌜ r ≡ rowAt (now (bytes .entry)) ⌝ }
+    ensures { λ r. ⌜ r ≡ rowIn (now (bytes .entry)) ⌝ }
 {
     let k = word(bytes, 12);
     let j = word(bytes, 16);

@@ -42,7 +42,7 @@ pub fn one_block(bytes: &[u8], t: usize, n: usize) -> bool
 }
 
 // The ids and the symbols of n packets, in the order in which they came.
-pub fn gather(bytes: &[u8], t: usize, n: usize, esis: &mut [u32], symbols: &mut [u8])
+pub fn read_packets(bytes: &[u8], t: usize, n: usize, esis: &mut [u32], symbols: &mut [u8])
     requires { ⌜ (packetAt t n ≤ length (now bytes)) × (0 < t) × (t < 65536) × (n ≤ 65535) × (n ≤ length (now esis)) × (n * t ≤ length (now symbols)) ⌝ }
     ensures { λ _. ⌜ Written (esiAt (now (bytes .entry)) t) (now (esis .entry)) (now (esis .exit)) 0 n ⌝ }
     ensures { λ _. ⌜ Written (octetAt (now (bytes .entry)) t) (now (symbols .entry)) (now (symbols .exit)) 0 (n * t) ⌝ }

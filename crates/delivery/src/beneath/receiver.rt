@@ -3,9 +3,8 @@ ghost use mathlib.Core.Path.{_≡_};
 ghost use Prim.Native.Nat.{_≤_};
 ghost use lib.ListN.{length};
 ghost use Rattle.field.specs.Answer.{given};
-ghost use Rattle.solver.specs.System.{systemOf};
 ghost use Rattle.delivery.specs.Screen.{screen as Screen·screen};
-ghost use Rattle.delivery.specs.Received.{Comes, Holdable, Leaves, Rebuildable, Settled, Settles, outcomeOf};
+ghost use Rattle.delivery.specs.Received.{Comes, Concludes, Heard, Holdable, Leaves, Rebuildable, Roomy};
 use crate::beneath::block;
 use crate::beneath::layout;
 use crate::beneath::packets;
@@ -19,34 +18,21 @@ use headers::row::Row;
 use solver::solver::Solution;
 use solver::solver::solve;
 
-// Object: so many bytes, at the front of the lent store.
-pub enum Outcome {
-    Object(usize),
-    Contradiction,
-    Open(u32),
+// Taken: the verdict on its system, and the bytes of its object, so many; they stand at the front of the lent store where it is solved.
+pub enum Received {
+    Taken(Verdict, usize),
     Stopped(Stop),
 }
 
-fn finish(
-    v: Verdict,
-    r: Row,
-    tables: &[u32],
-    k: u32,
-    t: u16,
-    intermediates: &[u8],
-    f: usize,
-    out: &mut [u8],
-) -> Outcome
+// The block, where it is solved.
+fn leave(v: Verdict, r: Row, tables: &[u32], k: u32, t: u16, intermediates: &[u8], out: &mut [u8])
     requires { ⌜ Rebuildable r (now tables) k t (now intermediates) (now out) ⌝ }
-    ensures { λ o. ⌜ (o ≡ outcomeOf f v) × Leaves (now (tables .entry)) r k t (now (intermediates .entry)) (now (out .entry)) (now (out .exit)) v ⌝ }
+    ensures { λ _. ⌜ Leaves (now (tables .entry)) r k t (now (intermediates .entry)) (now (out .entry)) (now (out .exit)) v ⌝ }
 {
     match v {
-        Verdict::Solved => {
-            block::rebuild(r, tables, k, t, intermediates, out);
-            Outcome::Object(f)
-        }
-        Verdict::Contradiction => Outcome::Contradiction,
-        Verdict::Open(s) => Outcome::Open(s),
+        Verdict::Solved => block::rebuild(r, tables, k, t, intermediates, out),
+        Verdict::Contradiction => {}
+        Verdict::Open(_) => {}
     }
 }
 
@@ -63,15 +49,19 @@ fn attempt(
     values: &mut [u8],
     set: &mut [u8],
     out: &mut [u8],
-) -> Outcome
-    requires { ⌜ Holdable r (now tables) k t (now esis) (now symbols) × (108000 ≤ length (now rows)) × (368640 ≤ length (now values)) × (307200 ≤ length (now set)) × (307200 ≤ length (now out)) ⌝ }
-    ensures { λ o. ⌜ Settles r (now (tables .entry)) k t f (systemOf r (now (tables .entry)) k t (now (esis .entry)) (now (symbols .entry))) (now (out .entry)) (now (out .exit)) o ⌝ }
+) -> Received
+    requires { ⌜ Holdable r (now tables) k t (now esis) (now symbols) ⌝ }
+    requires { ⌜ Roomy (length (now rows)) (length (now values)) (length (now set)) (length (now out)) ⌝ }
+    ensures { λ o. ⌜ Concludes r (now (tables .entry)) k t f (now (esis .entry)) (now (symbols .entry)) (now (out .entry)) (now (out .exit)) o ⌝ }
 {
     let answer = solve(r, tables, k, t, esis, symbols, rows, values, set);
     let l = row::l(r) as usize * t as usize;
     match answer {
-        Solution::Given(v) => finish(v, r, tables, k, t, &set[..l], f, out),
-        Solution::Refused(why) => Outcome::Stopped(Stop::Refused(why)),
+        Solution::Given(v) => {
+            leave(v, r, tables, k, t, &set[..l], out);
+            Received::Taken(v, f)
+        }
+        Solution::Refused(why) => Received::Stopped(Stop::Refused(why)),
     }
 }
 
@@ -84,9 +74,9 @@ fn decode(
     symbols: &[u8],
     f: usize,
     out: &mut [u8],
-) -> Outcome
+) -> Received
     requires { ⌜ Holdable r (now tables) k t (now esis) (now symbols) × (307200 ≤ length (now out)) ⌝ }
-    ensures { λ o. ⌜ Settles r (now (tables .entry)) k t f (systemOf r (now (tables .entry)) k t (now (esis .entry)) (now (symbols .entry))) (now (out .entry)) (now (out .exit)) o ⌝ }
+    ensures { λ o. ⌜ Concludes r (now (tables .entry)) k t f (now (esis .entry)) (now (symbols .entry)) (now (out .entry)) (now (out .exit)) o ⌝ }
 {
     let mut rows = [0u8; 108000];
     let mut values = [0u8; 368640];
@@ -107,9 +97,9 @@ fn decode(
 }
 
 // Of a delivery that may be taken.
-fn settle(bytes: &[u8], out: &mut [u8]) -> Outcome
+fn hear(bytes: &[u8], out: &mut [u8]) -> Received
     requires { ⌜ (Screen·screen (now bytes) ≡ given tt) × (307200 ≤ length (now out)) ⌝ }
-    ensures { λ o. ⌜ Settled (now (bytes .entry)) (now (out .entry)) (now (out .exit)) o ⌝ }
+    ensures { λ o. ⌜ Heard (now (bytes .entry)) (now (out .entry)) (now (out .exit)) o ⌝ }
 {
     let o = layout::info(bytes);
     let r = layout::row(bytes);
@@ -122,17 +112,17 @@ fn settle(bytes: &[u8], out: &mut [u8]) -> Outcome
     layout::read_tables(bytes, &mut tables);
     let mut esis = [0u32; 360];
     let mut symbols = [0u8; 368640];
-    packets::gather(bytes, size, n, &mut esis, &mut symbols);
+    packets::read_packets(bytes, size, n, &mut esis, &mut symbols);
     decode(r, &tables, k, t, &esis[..n], &symbols[..n * size], f, out)
 }
 
-pub fn receive(bytes: &[u8], out: &mut [u8]) -> Outcome
+pub fn receive(bytes: &[u8], out: &mut [u8]) -> Received
     requires { ⌜ 307200 ≤ length (now out) ⌝ }
     ensures { λ o. ⌜ Comes (now (bytes .entry)) (now (out .entry)) (now (out .exit)) o ⌝ }
 {
     let fine = screen::screen(bytes);
     match fine {
-        Screened::Passed => settle(bytes, out),
-        Screened::Stopped(why) => Outcome::Stopped(why),
+        Screened::Passed => hear(bytes, out),
+        Screened::Stopped(why) => Received::Stopped(why),
     }
 }

@@ -1,6 +1,6 @@
 -- `delivery::beneath::layout::row` meets its contract.
 -- Assumes nothing.
-use Rattle.delivery.specs.Layout.{rowAt}
+use Rattle.delivery.specs.Layout.{rowIn}
 use Rattle.delivery.proofs.Lists.{row-is}
 use borrow.Author.Needs.{needs}
 use Rattle.delivery.proofs.beneath.layout.row.Statement.{statement}
@@ -22,7 +22,7 @@ word-requires-5 : tie.Need-word-requires-5
 word-requires-5 c κs = search needs
 
 returns : tie.Need-returns
-unfolding rowAt
+unfolding rowIn
 returns c = row-is (c .before .before .before .before .word .ensures) (c .before .before .before .word2 .ensures) (c .before .before .word3 .ensures) (c .before .word4 .ensures) (c .word5 .ensures)
 
 pub row-spec : {M : Type 1} → statement M

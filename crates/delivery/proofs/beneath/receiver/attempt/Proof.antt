@@ -27,24 +27,24 @@ mul-l c =
 enum-known-answer : tie.Need-enum-known-answer
 enum-known-answer c = search needs
 
-slice-reshare-prefix-finish : tie.Need-slice-reshare-prefix-finish
-slice-reshare-prefix-finish c =
+slice-reshare-prefix-leave : tie.Need-slice-reshare-prefix-leave
+slice-reshare-prefix-leave c =
     let s = c .before .before .before .before .before .before .before .before .before .before .before .before .before .before .before .before .before .before .before .before .before in
     let e = ap (λ (x : ℕ). x * s .args .t) (c .before .before .before .l .ensures) in
-    omega (arith, e, set-fits (s .pre .0), c .before .before .before .before .before .before .before .before .before .before .solve .kept .1 .1 .1 .1 .1 .1 .1 .1 .0, s .pre .3)
+    omega (arith, e, set-fits (s .pre .0), c .before .before .before .before .before .before .before .before .before .before .solve .kept .1 .1 .1 .1 .1 .1 .1 .1 .0, s .pre .1 .set-room)
 
-slice-aggregate-finish : tie.Need-slice-aggregate-finish
-slice-aggregate-finish c =
+slice-aggregate-leave : tie.Need-slice-aggregate-leave
+slice-aggregate-leave c =
     let s = c .before .before .before .before .before .before .before .before .before .before .before .before .before .before .before .before .before .before .before .before .before .before in
     let e = ap (λ (x : ℕ). x * s .args .t) (c .before .before .before .before .l .ensures) in
-    sym (length-take-le (c .before .before .before .before .l .result * s .args .t) (c .before .before .before .before .before .before .before .before .before .before .before .solve .last .1 .1 .1 .1 .1 .1 .1 .1 .0) (omega (arith, e, set-fits (s .pre .0), c .before .before .before .before .before .before .before .before .before .before .before .solve .kept .1 .1 .1 .1 .1 .1 .1 .1 .0, s .pre .3)))
+    sym (length-take-le (c .before .before .before .before .l .result * s .args .t) (c .before .before .before .before .before .before .before .before .before .before .before .solve .last .1 .1 .1 .1 .1 .1 .1 .1 .0) (omega (arith, e, set-fits (s .pre .0), c .before .before .before .before .before .before .before .before .before .before .before .solve .kept .1 .1 .1 .1 .1 .1 .1 .1 .0, s .pre .1 .set-room)))
 
-finish-requires : tie.Need-finish-requires
-finish-requires c κs =
+leave-requires : tie.Need-leave-requires
+leave-requires c κs =
     let s = c .before .before .before .before .before .before .before .before .before .before .before .before .before .before .before .before .before .before .before .before .before .before .before in
     let e = ap (λ (x : ℕ). x * s .args .t) (c .before .before .before .before .before .l .ensures) in
-    let q = length-take-le (c .before .before .before .before .before .l .result * s .args .t) (c .before .before .before .before .before .before .before .before .before .before .before .before .solve .last .1 .1 .1 .1 .1 .1 .1 .1 .0) (omega (arith, e, set-fits (s .pre .0), c .before .before .before .before .before .before .before .before .before .before .before .before .solve .kept .1 .1 .1 .1 .1 .1 .1 .1 .0, s .pre .3)) in
-    record { rules = s .pre .0 .rules; tables = s .pre .0 .tables; k-high = s .pre .0 .k-high; t-low = s .pre .0 .t-low; symbols = omega (arith, e, q); room = omega (arith, block-fits (s .pre .0), s .pre .4) }
+    let q = length-take-le (c .before .before .before .before .before .l .result * s .args .t) (c .before .before .before .before .before .before .before .before .before .before .before .before .solve .last .1 .1 .1 .1 .1 .1 .1 .1 .0) (omega (arith, e, set-fits (s .pre .0), c .before .before .before .before .before .before .before .before .before .before .before .before .solve .kept .1 .1 .1 .1 .1 .1 .1 .1 .0, s .pre .1 .set-room)) in
+    record { rules = s .pre .0 .rules; tables = s .pre .0 .tables; k-high = s .pre .0 .k-high; t-low = s .pre .0 .t-low; symbols = omega (arith, e, q); room = omega (arith, block-fits (s .pre .0), s .pre .1 .out-room) }
 
 enum-known-answer-2 : tie.Need-enum-known-answer-2
 enum-known-answer-2 c = search needs
@@ -67,7 +67,7 @@ returns c =
     let e = ap (λ (x : ℕ). x * s .args .t) (c .before .before .before .before .before .before .before .before .l .ensures) in
     let a = s .args in
     let v = c .before .before .before .before .before .before .before .before .before .before .before .before .before .before .before .solve in
-    decoded (a .r) (a .tables .now) (a .k) (a .t) (a .f) (a .esis .now) (a .symbols .now) (a .rows .now) (a .values .now) (a .set .now) (v .last .1 .1 .1 .1 .1 .1 .0) (v .last .1 .1 .1 .1 .1 .1 .1 .0) (v .last .1 .1 .1 .1 .1 .1 .1 .1 .0) (a .out .now) (c .before .before .finish .last .1 .1 .1 .1 .1 .1 .1 .0) (v .result) (c .before .before .before .before .before .before .answer .given .0 .0) (c .before .before .finish .result) (c .before .before .before .before .before .before .before .before .l .result * a .t) e (v .ensures) (c .before .before .before .before .before .before .answer .given .1) (c .before .before .finish .ensures)
+    decoded (a .r) (a .tables .now) (a .k) (a .t) (a .f) (a .esis .now) (a .symbols .now) (a .rows .now) (a .values .now) (a .set .now) (v .last .1 .1 .1 .1 .1 .1 .0) (v .last .1 .1 .1 .1 .1 .1 .1 .0) (v .last .1 .1 .1 .1 .1 .1 .1 .1 .0) (a .out .now) (c .before .before .leave .last .1 .1 .1 .1 .1 .1 .0) (v .result) (c .before .before .before .before .before .before .answer .given .0 .0) (c .before .before .before .before .before .before .before .before .l .result * a .t) e (v .ensures) (c .before .before .before .before .before .before .answer .given .1) (c .before .before .leave .ensures)
 
 same-length-5 : tie.Need-same-length-5
 same-length-5 c = search needs
@@ -83,7 +83,7 @@ returns-2 c =
     let s = c .before .before .before .before .before .before .before .before .before .before .before .before .before .before .before .before .before .before .before .before .before in
     let a = s .args in
     let v = c .before .before .before .before .before .before .before .before .before .before .solve in
-    never-refused (s .pre .0) (a .rows .now) (a .values .now) (a .set .now) (v .last .1 .1 .1 .1 .1 .1 .0) (v .last .1 .1 .1 .1 .1 .1 .1 .0) (v .last .1 .1 .1 .1 .1 .1 .1 .1 .0) (v .result) (c .before .answer2 .given .0 .0) (s .pre .1) (s .pre .2) (s .pre .3) (v .ensures) (c .before .answer2 .given .1)
+    never-refused (s .pre .0) (a .rows .now) (a .values .now) (a .set .now) (v .last .1 .1 .1 .1 .1 .1 .0) (v .last .1 .1 .1 .1 .1 .1 .1 .0) (v .last .1 .1 .1 .1 .1 .1 .1 .1 .0) (v .result) (c .before .answer2 .given .0 .0) (s .pre .1) (v .ensures) (c .before .answer2 .given .1)
 
 pub attempt-spec : {M : Type 1} → statement M
 attempt-spec =
@@ -94,9 +94,9 @@ attempt-spec =
     cast-l
     mul-l
     enum-known-answer
-    slice-reshare-prefix-finish
-    slice-aggregate-finish
-    finish-requires
+    slice-reshare-prefix-leave
+    slice-aggregate-leave
+    leave-requires
     enum-known-answer-2
     same-length
     same-length-2

@@ -15,7 +15,16 @@ slice-aggregate-attempt-3 : tie.Need-slice-aggregate-attempt-3
 slice-aggregate-attempt-3 c = refl
 
 attempt-requires : tie.Need-attempt-requires
-attempt-requires c κs = (c .before .before .before .before .before .before .before .before .pre .0, no-more (slice-aggregate-attempt (c .before .before .before)), no-more (slice-aggregate-attempt-2 (c .before .before)), no-more (slice-aggregate-attempt-3 (c .before)), c .before .before .before .before .before .before .before .before .pre .1)
+attempt-requires c κs =
+    let s = c .before .before .before .before .before .before .before .before in (
+      s .pre .0,
+      record {
+        rows-room = no-more (slice-aggregate-attempt (c .before .before .before));
+        values-room = no-more (slice-aggregate-attempt-2 (c .before .before));
+        set-room = no-more (slice-aggregate-attempt-3 (c .before));
+        out-room = s .pre .1;
+      },
+    )
 
 same-length : tie.Need-same-length
 same-length c = c .before .before .before .before .before .attempt .kept .1 .1 .1 .1 .1 .1 .1 .1 .1 .1 .0

@@ -14,8 +14,8 @@ screen-requires c κs = search needs
 enum-told : tie.Need-enum-told
 enum-told c = search needs
 
-settle-requires : tie.Need-settle-requires
-settle-requires c κs = (all-passed (c .before .before .before .screen .result) (c .before .before .before .screen .ensures) (c .before .enum-told .given .1), c .before .before .before .before .before .before .pre)
+hear-requires : tie.Need-hear-requires
+hear-requires c κs = (all-passed (c .before .before .before .screen .result) (c .before .before .before .screen .ensures) (c .before .enum-told .given .1), c .before .before .before .before .before .before .pre)
 
 enum-known-fine : tie.Need-enum-known-fine
 enum-known-fine c = search needs
@@ -24,7 +24,7 @@ same-length : tie.Need-same-length
 same-length c = search needs
 
 returns : tie.Need-returns
-returns c = came (c .before .before .before .before .before .before .before .before .before .args .bytes .now) (c .before .before .before .before .before .before .before .before .before .args .out .now) _ (c .before .before .settle .result) (all-passed (c .before .before .before .before .before .before .screen .result) (c .before .before .before .before .before .before .screen .ensures) (c .before .before .before .before .enum-told .given .1)) (c .before .before .settle .ensures)
+returns c = came (c .before .before .before .before .before .before .before .before .before .args .bytes .now) (c .before .before .before .before .before .before .before .before .before .args .out .now) _ (c .before .before .hear .result) (all-passed (c .before .before .before .before .before .before .screen .result) (c .before .before .before .before .before .before .screen .ensures) (c .before .before .before .before .enum-told .given .1)) (c .before .before .hear .ensures)
 
 returns-2 : tie.Need-returns-2
 returns-2 c = (sym (c .before .before .before .screen .ensures) ∙ ap screened (c .before .fine .given .1), refl)
@@ -35,7 +35,7 @@ receive-spec =
     (tie.spec
     screen-requires
     enum-told
-    settle-requires
+    hear-requires
     enum-known-fine
     same-length
     returns

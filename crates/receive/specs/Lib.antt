@@ -1,0 +1,2 @@
+-- What the contracts of `receive` cite.
+pub mod Input

@@ -1,0 +1,4 @@
+-- The laws. A crate above names these as `Rattle.reply.proofs.Replies`.
+pub mod Lines
+pub mod Replies
+pub mod Names

@@ -1,0 +1,106 @@
+-- There is one reply to a delivery, and one content of each stream; what is written stands in the store.
+-- Assumes nothing.
+use mathlib.Core.Path.{_≡_, refl, sym, ap, ap₂, _∙_, subst}
+use mathlib.Core.List.{List}
+use Prim.Native.Nat.{ℕ, _≤_}
+use native.Mathlib.Omega.{arith}
+use lib.ListN.{length, take}
+use lib.Seq.{ext-getD, getD-take, length-take-le}
+use Rattle.field.proofs.Writing.{written-once}
+use Rattle.elimination.specs.declared.verdict.Verdict.{Verdict}
+use Rattle.elimination.specs.declared.verdict.Verdict.the-variants.{Solved, Contradiction, Open}
+use Rattle.delivery.specs.Received.{Comes}
+use Rattle.delivery.specs.declared.beneath.receiver.Received.{Received}
+use Rattle.delivery.specs.declared.beneath.receiver.Received.the-variants.{Taken, Stopped}
+use Rattle.delivery.proofs.Outcomes.{comes-only, comes-once, object-once, object-in, object-fits}
+use Rattle.reply.specs.Words.{Line, ascii, openWords, stopWords}
+use Rattle.reply.specs.Replies.{AtFront, InWords, Replied, Said, SaidOf, toError, toOutput}
+use Rattle.reply.specs.declared.beneath.replying.Reply.{Reply}
+use Rattle.reply.specs.declared.beneath.replying.Reply.the-variants.{Object, Words}
+use Rattle.reply.proofs.Lines.{counts, line-counts, line-is}
+
+-- ---- one reply
+
+module _ (ws xs ys zs : List ℕ) where
+  in-words-once : (r s : Reply) → InWords ws xs ys r → InWords ws xs zs s → (r ≡ s) × (ys ≡ zs)
+  in-words-once (Object m) (Object n) a b = absurd a
+  in-words-once (Object m) (Words n) a b = absurd a
+  in-words-once (Words m) (Object n) a b = absurd b
+  in-words-once (Words m) (Words n) a b = (ap Words (a .count ∙ sym (b .count)), written-once (a .laid) (b .laid))
+
+module _ (xs ys zs : List ℕ) (r s : Reply) where
+  said-of-once : (v : Verdict) (f : ℕ) → SaidOf f xs ys r v → SaidOf f xs zs s v → (r ≡ s) × (ys ≡ zs)
+  said-of-once Solved f a b = (a .0 ∙ sym (b .0), a .1 ∙ sym (b .1))
+  said-of-once Contradiction f a b = in-words-once (ascii "contradiction\n") xs ys zs r s a b
+  said-of-once (Open n) f a b = in-words-once (openWords n) xs ys zs r s a b
+
+  said-once : (o : Received) → Said xs ys r o → Said xs zs s o → (r ≡ s) × (ys ≡ zs)
+  said-once (Taken v f) a b = said-of-once v f a b
+  said-once (Stopped why) a b = in-words-once (stopWords why) xs ys zs r s a b
+
+-- any two results that the contract allows are the same: the stream, the count and the store
+pub replied-once : {d xs ys zs : List ℕ} {r s : Reply} → Replied d xs ys r → Replied d xs zs s → (r ≡ s) × (ys ≡ zs)
+replied-once {d} {xs} {ys} {zs} {r} {s} a b =
+    let e = comes-once d xs (a .store) (b .store) (a .what) (b .what) (a .comes) (b .comes) in
+    let u = subst (λ (o : Received). Said (b .store) zs s o) (sym (e .0)) (b .said) in
+    said-once (a .store) ys zs r s (a .what) (a .said) (subst (λ (m : List ℕ). Said m zs s (a .what)) (sym (e .1)) u)
+
+-- ---- the content of both streams, whatever the store held before
+
+abbrev Same : (r s : Reply) (ys vs : List ℕ) → Type 0
+Same r s ys vs = (toOutput r ys ≡ toOutput s vs) × (toError r ys ≡ toError s vs)
+
+module _ (ws xs ys us vs : List ℕ) where
+  same-words : (r s : Reply) → InWords ws xs ys r → InWords ws us vs s → Same r s ys vs
+  same-words (Object m) (Object n) a b = absurd a
+  same-words (Object m) (Words n) a b = absurd a
+  same-words (Words m) (Object n) a b = absurd b
+  same-words (Words m) (Words n) a b = (refl, line-is a ∙ sym (line-is b))
+
+module _ (d : List ℕ) {xs ys us vs : List ℕ} {n : ℕ} (a : Comes d xs ys (Taken Solved n)) (b : Comes d us vs (Taken Solved n)) where
+  same-object : n ≤ length ys → n ≤ length vs → take n ys ≡ take n vs
+  same-object p q =
+      let l = length-take-le n ys p in
+      let m = length-take-le n vs q in
+      ext-getD 0 (take n ys) (take n vs) (l ∙ sym m)
+      (λ k h. getD-take n ys k 0 (omega arith) ∙ object-once d a b k (omega (arith, object-in d a)) ∙ sym (getD-take n vs k 0 (omega arith)))
+
+module _ (d xs us ys vs : List ℕ) (r s : Reply) (f : AtFront r ys) (g : AtFront s vs) where
+  same-said-of : (v : Verdict) (n : ℕ) (p q : List ℕ) → Comes d xs p (Taken v n) → Comes d us q (Taken v n) → SaidOf n p ys r v → SaidOf n q vs s v → Same r s ys vs
+  same-said-of Solved n p q x y a b =
+      let x₁ = subst (λ (m : List ℕ). Comes d xs m (Taken Solved n)) (sym (a .1)) x in
+      let y₁ = subst (λ (m : List ℕ). Comes d us m (Taken Solved n)) (sym (b .1)) y in
+      let f₁ = subst (λ (t : Reply). AtFront t ys) (a .0) f in
+      let g₁ = subst (λ (t : Reply). AtFront t vs) (b .0) g in (
+        ap (λ (t : Reply). toOutput t ys) (a .0) ∙ same-object d x₁ y₁ (f₁ .0) (g₁ .0) ∙ sym (ap (λ (t : Reply). toOutput t vs) (b .0)),
+        ap (λ (t : Reply). toError t ys) (a .0) ∙ sym (ap (λ (t : Reply). toError t vs) (b .0)),
+      )
+  same-said-of Contradiction n p q x y a b = same-words (ascii "contradiction\n") p ys q vs r s a b
+  same-said-of (Open m) n p q x y a b = same-words (openWords m) p ys q vs r s a b
+
+  same-said : (o : Received) (p q : List ℕ) → Comes d xs p o → Comes d us q o → Said p ys r o → Said q vs s o → Same r s ys vs
+  same-said (Taken v n) p q x y a b = same-said-of v n p q x y a b
+  same-said (Stopped why) p q x y a b = same-words (stopWords why) p ys q vs r s a b
+
+  -- of one delivery standard output gets the same bytes, and standard error the same words
+  pub streams-once : Replied d xs ys r → Replied d us vs s → (toOutput r ys ≡ toOutput s vs) × (toError r ys ≡ toError s vs)
+  streams-once a b =
+      let e = comes-only d xs (a .store) us (b .store) (a .what) (b .what) (a .comes) (b .comes) in
+      same-said (a .what) (a .store) (b .store) (a .comes) (subst (Comes d us (b .store)) (sym e) (b .comes)) (a .said)
+      (subst (λ (o : Received). Said (b .store) vs s o) (sym e) (b .said))
+
+-- ---- what is written stands in the store
+
+words-front : (ws xs ys : List ℕ) (r : Reply) → InWords ws xs ys r → AtFront r ys
+words-front ws xs ys (Object n) u = absurd u
+words-front ws xs ys (Words n) u = line-counts u
+
+module _ (d xs zs ys : List ℕ) (r : Reply) (l : 307200 ≤ length zs) where
+  verdict-front : (v : Verdict) (n : ℕ) → Comes d xs zs (Taken v n) → SaidOf n zs ys r v → AtFront r ys
+  verdict-front Solved n u w = subst (λ (t : Reply). AtFront t ys) (sym (w .0)) (counts ys (omega (arith, object-fits d u, ap length (w .1))))
+  verdict-front Contradiction n u w = words-front (ascii "contradiction\n") zs ys r w
+  verdict-front (Open m) n u w = words-front (openWords m) zs ys r w
+
+  pub said-front : (o : Received) → Comes d xs zs o → Said zs ys r o → AtFront r ys
+  said-front (Taken v n) u w = verdict-front v n u w
+  said-front (Stopped why) u w = words-front (stopWords why) zs ys r w

@@ -1,0 +1,51 @@
+-- What is written of a delivery, and to which stream.
+-- Assumes nothing.
+use mathlib.Core.Path.{_≡_}
+use mathlib.Core.List.{List, []}
+use Prim.Native.Nat.{ℕ}
+use lib.ListN.{take}
+use Rattle.io.specs.Counts.{Counts}
+use Rattle.elimination.specs.declared.verdict.Verdict.{Verdict}
+use Rattle.elimination.specs.declared.verdict.Verdict.the-variants.{Solved, Contradiction, Open}
+use Rattle.delivery.specs.Received.{Comes}
+use Rattle.delivery.specs.declared.beneath.receiver.Received.{Received}
+use Rattle.delivery.specs.declared.beneath.receiver.Received.the-variants.{Taken, Stopped}
+use Rattle.reply.specs.Words.{Line, ascii, openWords, stopWords}
+use Rattle.reply.specs.declared.beneath.replying.Reply.{Reply}
+use Rattle.reply.specs.declared.beneath.replying.Reply.the-variants.{Object, Words}
+
+-- what standard output (or the file OUT) gets, and what standard error gets, of a store
+abbrev pub toOutput : Reply → List ℕ → List ℕ
+toOutput (Object n) ys = take n ys
+toOutput (Words n) ys = []
+
+abbrev pub toError : Reply → List ℕ → List ℕ
+toError (Object n) ys = []
+toError (Words n) ys = take n ys
+
+-- there are as many bytes
+abbrev pub AtFront : Reply → List ℕ → Type 0
+AtFront (Object n) ys = Counts n ys
+AtFront (Words n) ys = Counts n ys
+
+-- a line for standard error; xs is the store before, ys after
+abbrev pub InWords : List ℕ → (xs ys : List ℕ) → Reply → Type 0
+InWords words xs ys (Object n) = ⊥
+InWords words xs ys (Words n) = Line words xs ys n
+
+-- the object, of f bytes, stands in the store already; all else is said in a line
+abbrev pub SaidOf : ℕ → (xs ys : List ℕ) → Reply → Verdict → Type 0
+SaidOf f xs ys r Solved = (r ≡ Object f) × (ys ≡ xs)
+SaidOf f xs ys r Contradiction = InWords (ascii "contradiction\n") xs ys r
+SaidOf f xs ys r (Open s) = InWords (openWords s) xs ys r
+
+abbrev pub Said : (xs ys : List ℕ) → Reply → Received → Type 0
+Said xs ys r (Taken verdict f) = SaidOf f xs ys r verdict
+Said xs ys r (Stopped why) = InWords (stopWords why) xs ys r
+
+-- The contract: what comes of the delivery d, said.
+pub record Replied (d xs ys : List ℕ) (r : Reply) : Type 0 where
+  pub what : Received
+  pub store : List ℕ
+  pub comes : Comes d xs store what
+  pub said : Said store ys r what

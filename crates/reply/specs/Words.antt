@@ -1,0 +1,68 @@
+-- The words of the receiving program, letter by letter (docs/DELIVERY.md).
+-- Assumes nothing.
+use mathlib.Core.Path.{_≡_}
+use mathlib.Core.List.{List, _++_}
+use mathlib.Core.List.{[] as none, _∷_ as next}
+use Prim.Native.Char.{code}
+use Prim.Native.Nat.{ℕ, _≤_}
+use Prim.Native.String.{String, [], _∷_}
+use lib.ListN.{length}
+use Rattle.headers.specs.Bytes.{Laid}
+use Rattle.header_text.specs.Text.{spelled}
+use Rattle.field.specs.declared.refusal.Refusal.{Refusal}
+use Rattle.field.specs.declared.refusal.Refusal.the-variants as Why
+use Rattle.delivery.specs.declared.beneath.screen.Stop.{Stop}
+use Rattle.delivery.specs.declared.beneath.screen.Stop.the-variants as Stops
+use Rattle.reply.specs.declared.beneath.target.Misuse.{Misuse}
+use Rattle.reply.specs.declared.beneath.target.Misuse.the-variants as Misuses
+use Rattle.reply.specs.declared.beneath.words.Failure.{Failure}
+use Rattle.reply.specs.declared.beneath.words.Failure.the-variants as Failures
+
+-- a text in ASCII
+abbrev pub ascii : String → List ℕ
+ascii [] = none
+ascii (c ∷ s) = next (code c) (ascii s)
+
+-- a line at the front of a store
+pub record Line (words xs ys : List ℕ) (n : ℕ) : Type 0 where
+  pub laid : Laid words xs ys 0
+  pub count : n ≡ length words
+  pub room : length words ≤ length xs
+
+abbrev pub refusalWords : Refusal → List ℕ
+refusalWords Why.DivisorZero = ascii "refused 1: an octet is divided by 0\n"
+refusalWords Why.OutOfRange = ascii "refused 2: a number is outside its range\n"
+refusalWords Why.BadTransmission = ascii "refused 3: the transmission information breaks its rules\n"
+refusalWords Why.BadRow = ascii "refused 4: the parameter row breaks its rules\n"
+refusalWords Why.BadTables = ascii "refused 5: the random tables are not 1,024 numbers\n"
+refusalWords Why.Outside = ascii "refused 6: a place is outside\n"
+refusalWords Why.SamePlace = ascii "refused 7: destination and source are one\n"
+refusalWords Why.WrongLength = ascii "refused 8: the delivery ends in its first 32 bytes\n"
+refusalWords Why.BadCount = ascii "refused 9: the count of source symbols is not from 1 to K'\n"
+refusalWords Why.BadSize = ascii "refused 10: the symbol size is 0, or the last packet is not whole\n"
+
+abbrev pub stopWords : Stop → List ℕ
+stopWords (Stops.Refused why) = refusalWords why
+stopWords Stops.TooLarge = ascii "too large for this program: T is at most 1,024, L at most 300, the equations at most 360\n"
+stopWords Stops.SeveralBlocks = ascii "several blocks: this program takes one source block of one sub-block\n"
+stopWords Stops.OtherBlock = ascii "another block: a packet has a block number other than 0\n"
+
+abbrev pub openWords : ℕ → List ℕ
+openWords s = ascii "open, " ++ (spelled 20 s ++ ascii " more independent packets at least\n")
+
+-- of arguments that the program does not take
+abbrev pub misuseWords : Misuse → List ℕ
+misuseWords Misuses.Arguments = ascii "more than one argument: it is receive, or receive OUT, with the delivery on standard input\n"
+misuseWords Misuses.NoName = ascii "the name of OUT is empty\n"
+misuseWords Misuses.LongName = ascii "the name of OUT has more than 4,000 bytes\n"
+
+-- in front of a colon and the system's reason
+abbrev pub failureWords : Failure → List ℕ
+failureWords Failures.Reading = ascii "standard input cannot be read"
+failureWords Failures.Output = ascii "standard output cannot be written"
+failureWords Failures.Making = ascii "no file can be made beside OUT"
+failureWords Failures.Writing = ascii "the file beside OUT cannot be written"
+failureWords Failures.Syncing = ascii "the file beside OUT cannot be synced"
+failureWords Failures.Closing = ascii "the file beside OUT cannot be closed"
+failureWords Failures.Renaming = ascii "the file beside OUT cannot be renamed to OUT"
+failureWords Failures.Removing = ascii "the file beside OUT cannot be removed"

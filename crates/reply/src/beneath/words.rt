@@ -1,0 +1,118 @@
+// The words, each a line at the front of a lent store: what comes of a delivery that gives no object, and what else keeps the program from its work.
+ghost use Prim.Native.Nat.{_≤_};
+ghost use lib.ListN.{length};
+ghost use Rattle.reply.specs.Words.{Line, failureWords, misuseWords, openWords, refusalWords, stopWords};
+use crate::beneath::target::Misuse;
+use delivery::beneath::screen::Stop;
+use field::refusal::Refusal;
+use headers::beneath::big_endian;
+
+// A call of the system that failed. Its reason, which the system has words for, comes behind these.
+pub enum Failure {
+    Reading,
+    Output,
+    Making,
+    Writing,
+    Syncing,
+    Closing,
+    Renaming,
+    Removing,
+}
+
+pub fn line(out: &mut [u8], words: &[u8]) -> usize
+    requires { ⌜ length (now words) ≤ length (now out) ⌝ }
+    ensures { λ r. ⌜ Line (now (words .entry)) (now (out .entry)) (now (out .exit)) r ⌝ }
+{
+    big_endian::copy(out, 0, words);
+    words.len()
+}
+
+fn refused(out: &mut [u8], why: Refusal) -> usize
+    requires { ⌜ 200 ≤ length (now out) ⌝ }
+    ensures { λ r. ⌜ Line (refusalWords why) (now (out .entry)) (now (out .exit)) r ⌝ }
+{
+    match why {
+        Refusal::DivisorZero => line(out, b"refused 1: an octet is divided by 0\n"),
+        Refusal::OutOfRange => line(out, b"refused 2: a number is outside its range\n"),
+        Refusal::BadTransmission => line(
+            out,
+            b"refused 3: the transmission information breaks its rules\n",
+        ),
+        Refusal::BadRow => line(out, b"refused 4: the parameter row breaks its rules\n"),
+        Refusal::BadTables => line(out, b"refused 5: the random tables are not 1,024 numbers\n"),
+        Refusal::Outside => line(out, b"refused 6: a place is outside\n"),
+        Refusal::SamePlace => line(out, b"refused 7: destination and source are one\n"),
+        Refusal::WrongLength => line(out, b"refused 8: the delivery ends in its first 32 bytes\n"),
+        Refusal::BadCount => line(
+            out,
+            b"refused 9: the count of source symbols is not from 1 to K'\n",
+        ),
+        Refusal::BadSize => line(
+            out,
+            b"refused 10: the symbol size is 0, or the last packet is not whole\n",
+        ),
+    }
+}
+
+pub fn stopped(out: &mut [u8], why: Stop) -> usize
+    requires { ⌜ 200 ≤ length (now out) ⌝ }
+    ensures { λ r. ⌜ Line (stopWords why) (now (out .entry)) (now (out .exit)) r ⌝ }
+{
+    match why {
+        Stop::Refused(w) => refused(out, w),
+        Stop::TooLarge => line(
+            out,
+            b"too large for this program: T is at most 1,024, L at most 300, the equations at most 360\n",
+        ),
+        Stop::SeveralBlocks => line(
+            out,
+            b"several blocks: this program takes one source block of one sub-block\n",
+        ),
+        Stop::OtherBlock => line(
+            out,
+            b"another block: a packet has a block number other than 0\n",
+        ),
+    }
+}
+
+pub fn open(out: &mut [u8], x: u32) -> usize
+    requires { ⌜ 200 ≤ length (now out) ⌝ }
+    ensures { λ r. ⌜ Line (openWords x) (now (out .entry)) (now (out .exit)) r ⌝ }
+{
+    let mut digits = [0u8; 20];
+    let k = io::decimal(x as u64, &mut digits);
+    big_endian::copy(out, 0, b"open, ");
+    big_endian::copy(out, 6, &digits[..k]);
+    big_endian::copy(out, 6 + k, b" more independent packets at least\n");
+    6 + k + 35
+}
+
+pub fn misused(out: &mut [u8], why: Misuse) -> usize
+    requires { ⌜ 200 ≤ length (now out) ⌝ }
+    ensures { λ r. ⌜ Line (misuseWords why) (now (out .entry)) (now (out .exit)) r ⌝ }
+{
+    match why {
+        Misuse::Arguments => line(
+            out,
+            b"more than one argument: it is receive, or receive OUT, with the delivery on standard input\n",
+        ),
+        Misuse::NoName => line(out, b"the name of OUT is empty\n"),
+        Misuse::LongName => line(out, b"the name of OUT has more than 4,000 bytes\n"),
+    }
+}
+
+pub fn failed(out: &mut [u8], what: Failure) -> usize
+    requires { ⌜ 200 ≤ length (now out) ⌝ }
+    ensures { λ r. ⌜ Line (failureWords what) (now (out .entry)) (now (out .exit)) r ⌝ }
+{
+    match what {
+        Failure::Reading => line(out, b"standard input cannot be read"),
+        Failure::Output => line(out, b"standard output cannot be written"),
+        Failure::Making => line(out, b"no file can be made beside OUT"),
+        Failure::Writing => line(out, b"the file beside OUT cannot be written"),
+        Failure::Syncing => line(out, b"the file beside OUT cannot be synced"),
+        Failure::Closing => line(out, b"the file beside OUT cannot be closed"),
+        Failure::Renaming => line(out, b"the file beside OUT cannot be renamed to OUT"),
+        Failure::Removing => line(out, b"the file beside OUT cannot be removed"),
+    }
+}
