@@ -140,7 +140,7 @@ module _ (d : List ℕ) (p b : ℕ) (h : p < nOf d) (l : esiAt d (tOf d) p < kOf
   row-is c u =
       arrival-row (rowIn d) (tablesOf d) (kOf d) (tOf d) (esisOf d) (symbolsOf d) p c
       ∙ ap (λ (x : ℕ). sentRow (tablesOf d) (rowIn d) (kOf d) x c) esi-is
-      ∙ ap (λ (x : ℕ). encOf (tablesOf d) (rowIn d) x c) (shifted-below (kOf d) (rowIn d .k) (esiAt d (tOf d) p) l)
+      ∙ ap (λ (x : ℕ). encOf (tablesOf d) (rowIn d) x c) (shifted-below (kOf d) (rowIn d .kp) (esiAt d (tOf d) p) l)
 
   -- and its symbol is what stands in the packet
   byte-is : deliveredSystem d .byte (fixed (rowIn d) (kOf d) + p) b ≡ getD d (packetAt (tOf d) p + 4 + b) 0
