@@ -14,7 +14,7 @@ use Rattle.field.proofs.Refusals.{went-on, stopped, passed, passed-before, told
 use Rattle.field.specs.declared.refusal.Refusal.{Refusal}
 use Rattle.field.specs.declared.refusal.Answer as Plain
 use Rattle.field.specs.declared.refusal.Answer.the-variants as Plains
-use Rattle.exports.specs.Call.{code, Kept, Called, roomed, thenRoomed, andRoom, listed, one, Listing}
+use Rattle.exports.specs.Call.{code, Kept, Called, roomed, thenRoomed, andRoom, listed, single, Listing}
 
 kept-once : (o : Outcome (List ℕ)) (out m n : List ℕ) → Kept o out m → Kept o out n → m ≡ n
 kept-once (given vs) out m n u w = written-once u w
@@ -57,8 +57,8 @@ module _ {A : Type 0} (f : A → List ℕ) {o : Outcome A} {out now : List ℕ} 
   called-late e q z = called-as (listed f) e (record { answer = q; memory = z })
 
 -- one value had room
-pub called-one : {now : List ℕ} {r : ℕ} (out : List ℕ) (o : Outcome ℕ) → 1 ≤ length out → Called (thenRoomed out (listed one o)) out now r → Called (listed one o) out now r
-called-one {now} {r} out (given x) h w = subst (λ (b : Bool). Called (unless b 8 (given (one x))) out now r) (le-ltb (length out) 1 h) w
+pub called-one : {now : List ℕ} {r : ℕ} (out : List ℕ) (o : Outcome ℕ) → 1 ≤ length out → Called (thenRoomed out (listed single o)) out now r → Called (listed single o) out now r
+called-one {now} {r} out (given x) h w = subst (λ (b : Bool). Called (unless b 8 (given (single x))) out now r) (le-ltb (length out) 1 h) w
 called-one out (refused n) h w = w
 
 -- Limits and room for one value were asked first: x told what they are.
@@ -66,9 +66,9 @@ module _ (limits : Outcome (Unit {0})) (out : List ℕ) (x : Plain.Answer) (q : 
   room : x ≡ Plains.Done → 1 ≤ length out
   room e = ltb-false (length out) 1 (passed (ltb (length out) 1) 8 (given tt) tt (passed-before limits _ tt (told x q e) .2) .0)
 
-  pub called-fit : {now : List ℕ} {r : ℕ} (o : Outcome ℕ) → x ≡ Plains.Done → Called (thenRoomed out (listed one o)) out now r
-      → Called (before (andRoom limits (length out) 1) (listed one o)) out now r
-  called-fit o e w = called-as (λ (a : Outcome (List ℕ)). a) (sym (went-on x q (listed one o) e)) (called-one out o (room e) w)
+  pub called-fit : {now : List ℕ} {r : ℕ} (o : Outcome ℕ) → x ≡ Plains.Done → Called (thenRoomed out (listed single o)) out now r
+      → Called (before (andRoom limits (length out) 1) (listed single o)) out now r
+  called-fit o e w = called-as (λ (a : Outcome (List ℕ)). a) (sym (went-on x q (listed single o) e)) (called-one out o (room e) w)
 
   pub called-unfit : {r : ℕ} (o : Outcome (List ℕ)) (why : Refusal) → x ≡ Plains.Refused why → r ≡ code (done x)
       → Called (before (andRoom limits (length out) 1) o) out out r
@@ -84,15 +84,15 @@ module _ (limits : Outcome (Unit {0})) (out : List ℕ) (x : Plain.Answer) (q : 
 
   -- the list l stands at the front and its length was told, or nothing was written: `asked` are the call's own refusals
   pub listing-fit : {list list' now : List ℕ} {r : ℕ} (asked : Outcome (Unit {0})) (l : List ℕ) (o : Outcome ℕ) → x ≡ Plains.Done → o ≡ before asked (given (length l))
-      → Left o list list' (Kept (given l) list list') → Called (thenRoomed out (listed one o)) out now r
+      → Left o list list' (Kept (given l) list list') → Called (thenRoomed out (listed single o)) out now r
       → Listing (before (andRoom limits (length out) 1) (before asked (given l))) list list' out now r
   listing-fit {list} {list'} {now} {r} asked l o e s m w =
       subst (λ (b : Outcome (List ℕ)). Listing b list list' out now r) (sym (went-on x q (before asked (given l)) e)) (go asked s)
     where
-      to : {p : Outcome ℕ} → o ≡ p → Left p list list' (Kept (given l) list list') × Called (listed one p) out now r
+      to : {p : Outcome ℕ} → o ≡ p → Left p list list' (Kept (given l) list list') × Called (listed single p) out now r
       to z = (
         subst (λ (a : Outcome ℕ). Left a list list' (Kept (given l) list list')) z m,
-        subst (λ (a : Outcome ℕ). Called (listed one a) out now r) z (called-one out o (room e) w),
+        subst (λ (a : Outcome ℕ). Called (listed single a) out now r) z (called-one out o (room e) w),
       )
 
       go : (asked : Outcome (Unit {0})) → o ≡ before asked (given (length l)) → Listing (before asked (given l)) list list' out now r

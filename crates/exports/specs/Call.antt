@@ -41,8 +41,8 @@ abbrev pub listed : {A : Type 0} → (A → List ℕ) → Outcome A → Outcome 
 listed f (given x) = given (f x)
 listed f (refused n) = refused n
 
-abbrev pub one : ℕ → List ℕ
-one x = x ∷ []
+abbrev pub single : ℕ → List ℕ
+single x = x ∷ []
 
 -- A call of which C is told only whether it was done: the layer below answered `below` and made ys of the store, as its contract C says, and r is
 -- the number of that answer.
@@ -53,7 +53,7 @@ pub record Reports {R A : Type 0} (of : R → Outcome A) (C : R → List ℕ →
 
 -- what is told of a list besides: how many places were written
 abbrev pub many : List ℕ → List ℕ
-many l = one (length l)
+many l = single (length l)
 
 -- a call that lists answered r, made `list'` of the slice for the list and `out'` of the one for its length
 pub record Listing (o : Outcome (List ℕ)) (list list' out out' : List ℕ) (r : ℕ) : Type 0 where

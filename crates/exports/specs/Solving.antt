@@ -11,7 +11,7 @@ use Rattle.elimination.specs.declared.verdict.Verdict.the-variants.{Solved, Con
 use Rattle.solver.specs.Display.{Place, arrived, rebuilt, anyLarge, answerable, located}
 use Rattle.solver.specs.System.{Solves, admitted}
 use Rattle.solver.specs.declared.solver.Solution.the-variants.{Given}
-use Rattle.exports.specs.Call.{Kept, andRoom, listed, one, roomed}
+use Rattle.exports.specs.Call.{Kept, andRoom, listed, single, roomed}
 
 -- 100 and 101 are the numbers of no refusal
 abbrev pub verdictCode : Verdict → ℕ
@@ -23,7 +23,7 @@ verdictCode (Open s) = 101
 abbrev pub lacking : Verdict → List ℕ
 lacking Solved = []
 lacking Contradiction = []
-lacking (Open s) = one s
+lacking (Open s) = single s
 
 -- the refusals of `solve`, then a slice f without room for the shortfall: 4, 5, 9, 10, 8
 abbrev pub taken : Row → List ℕ → ℕ → ℕ → (es xs a d o f : List ℕ) → Outcome (Unit {0})

@@ -4,7 +4,7 @@ ghost use lib.ListN.{length};
 ghost use Rattle.field.specs.Answer.{before, done};
 ghost use Rattle.stores.specs.Matrix.{Cleared, ColumnsSwapped, EntrySet, Resized, RowsAdded, RowsSwapped};
 ghost use Rattle.stores.specs.Matrix.{got, limited, matrixOutcome, onesOf, shape};
-ghost use Rattle.exports.specs.Call.{Called, Listing, Reports, andRoom, listed, one};
+ghost use Rattle.exports.specs.Call.{Called, Listing, Reports, andRoom, listed, single};
 ghost use Rattle.exports.specs.Stores.{onesAlong, onesDown, sized};
 use crate::values::hand_count;
 use crate::values::hand_octet;
@@ -63,7 +63,7 @@ pub extern "C" fn spoonripple_matrix_get(
     j: usize,
     out: &mut [u64],
 ) -> u32
-    ensures { λ r. ⌜ Called (before (sized height width (now (out .entry))) (listed one (got (now (words .entry)) (shape height width) i j)))
+    ensures { λ r. ⌜ Called (before (sized height width (now (out .entry))) (listed single (got (now (words .entry)) (shape height width) i j)))
         (now (out .entry)) (now (out .exit)) r ⌝ }
 {
     let fine = fits(height, width, out.len());
@@ -85,7 +85,7 @@ pub extern "C" fn spoonripple_matrix_count_ones(
     end: usize,
     out: &mut [u64],
 ) -> u32
-    ensures { λ r. ⌜ Called (before (sized height width (now (out .entry))) (listed one (onesOf (now (words .entry)) (shape height width) i start end)))
+    ensures { λ r. ⌜ Called (before (sized height width (now (out .entry))) (listed single (onesOf (now (words .entry)) (shape height width) i start end)))
         (now (out .entry)) (now (out .exit)) r ⌝ }
 {
     let fine = fits(height, width, out.len());

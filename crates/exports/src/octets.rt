@@ -2,7 +2,7 @@
 ghost use mathlib.Core.List.{[], _∷_};
 ghost use Rattle.field.specs.Octet.{plus, times};
 ghost use Rattle.field.specs.Answer.{divided, given, raised};
-ghost use Rattle.exports.specs.Call.{Called, listed, one, roomed, thenRoomed};
+ghost use Rattle.exports.specs.Call.{Called, listed, single, roomed, thenRoomed};
 use crate::values::hand_octet;
 use crate::values::hand_one;
 use field::octet;
@@ -39,7 +39,7 @@ pub extern "C" fn spoonripple_octet_fma(a: u8, b: u8, c: u8, out: &mut [u64]) ->
 // A store without room (8) comes before a divisor of 0 (1).
 #[no_mangle]
 pub extern "C" fn spoonripple_octet_div(a: u8, by: u8, out: &mut [u64]) -> u32
-    ensures { λ r. ⌜ Called (roomed (now (out .entry)) 1 (listed one (divided a by))) (now (out .entry)) (now (out .exit)) r ⌝ }
+    ensures { λ r. ⌜ Called (roomed (now (out .entry)) 1 (listed single (divided a by))) (now (out .entry)) (now (out .exit)) r ⌝ }
 {
     if out.len() < 1 {
         return 8;
@@ -50,7 +50,7 @@ pub extern "C" fn spoonripple_octet_div(a: u8, by: u8, out: &mut [u64]) -> u32
 // alpha to the power i; an exponent out of range (2) comes before a store without room (8).
 #[no_mangle]
 pub extern "C" fn spoonripple_octet_alpha(i: usize, out: &mut [u64]) -> u32
-    ensures { λ r. ⌜ Called (thenRoomed (now (out .entry)) (listed one (raised i))) (now (out .entry)) (now (out .exit)) r ⌝ }
+    ensures { λ r. ⌜ Called (thenRoomed (now (out .entry)) (listed single (raised i))) (now (out .entry)) (now (out .exit)) r ⌝ }
 {
     hand_octet(octet::alpha(i), out)
 }

@@ -4,7 +4,7 @@ ghost use Rattle.headers.specs.Rand.{randAnswer};
 ghost use Rattle.headers.specs.Row.{rowChecked};
 ghost use Rattle.headers.specs.Shift.{isiAnswer};
 ghost use Rattle.headers.specs.Tuples.{tupleAnswer};
-ghost use Rattle.exports.specs.Call.{Called, listed, one, thenRoomed};
+ghost use Rattle.exports.specs.Call.{Called, listed, single, thenRoomed};
 ghost use Rattle.exports.specs.Numbers.{row, sizeNumbers, tupleNumbers};
 use crate::values::hand;
 use crate::values::hand_number;
@@ -23,14 +23,14 @@ use headers::tuple::Generated;
 
 #[no_mangle]
 pub extern "C" fn spoonripple_rand(tables: &[u32], y: u32, i: u8, m: u32, out: &mut [u64]) -> u32
-    ensures { λ r. ⌜ Called (thenRoomed (now (out .entry)) (listed one (randAnswer (now (tables .entry)) y i m))) (now (out .entry)) (now (out .exit)) r ⌝ }
+    ensures { λ r. ⌜ Called (thenRoomed (now (out .entry)) (listed single (randAnswer (now (tables .entry)) y i m))) (now (out .entry)) (now (out .exit)) r ⌝ }
 {
     hand_number(rng::rand(tables, y, i, m), out)
 }
 
 #[no_mangle]
 pub extern "C" fn spoonripple_deg(v: u32, w: u32, out: &mut [u64]) -> u32
-    ensures { λ r. ⌜ Called (thenRoomed (now (out .entry)) (listed one (degAnswer v w))) (now (out .entry)) (now (out .exit)) r ⌝ }
+    ensures { λ r. ⌜ Called (thenRoomed (now (out .entry)) (listed single (degAnswer v w))) (now (out .entry)) (now (out .exit)) r ⌝ }
 {
     hand_number(deg::deg(v, w), out)
 }
@@ -68,7 +68,7 @@ pub extern "C" fn spoonripple_isi(
     esi: u32,
     out: &mut [u64],
 ) -> u32
-    ensures { λ r. ⌜ Called (thenRoomed (now (out .entry)) (listed one (isiAnswer (row k j s h w) count esi))) (now (out .entry)) (now (out .exit)) r ⌝ }
+    ensures { λ r. ⌜ Called (thenRoomed (now (out .entry)) (listed single (isiAnswer (row k j s h w) count esi))) (now (out .entry)) (now (out .exit)) r ⌝ }
 {
     match ids::isi_of(Row { kp: k, j, s, h, w }, count, Esi(esi)) {
         Shifted::Value(x) => hand_one(ids::number(x) as u64, out),

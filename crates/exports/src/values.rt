@@ -6,7 +6,7 @@ ghost use Rattle.field.specs.Answer.{done, given, octetOutcome};
 ghost use Rattle.headers.specs.Number.{numberOutcome};
 ghost use Rattle.slab.specs.Slab.{slabOutcome};
 ghost use Rattle.stores.specs.Matrix.{counted, matrixOutcome};
-ghost use Rattle.exports.specs.Call.{Called, code, listed, one, roomed, thenRoomed};
+ghost use Rattle.exports.specs.Call.{Called, code, listed, single, roomed, thenRoomed};
 use field::octet;
 use field::refusal::Answer;
 use field::refusal::number;
@@ -76,7 +76,7 @@ pub fn hand_one(x: u64, out: &mut [u64]) -> u32
 
 // The one value of an answer, or its refusal, which comes before 8.
 pub fn hand_octet(a: octet::Answer, out: &mut [u64]) -> u32
-    ensures { λ r. ⌜ Called (thenRoomed (now (out .entry)) (listed one (octetOutcome a))) (now (out .entry)) (now (out .exit)) r ⌝ }
+    ensures { λ r. ⌜ Called (thenRoomed (now (out .entry)) (listed single (octetOutcome a))) (now (out .entry)) (now (out .exit)) r ⌝ }
 {
     match a {
         octet::Answer::Octet(x) => hand_one(x as u64, out),
@@ -85,7 +85,7 @@ pub fn hand_octet(a: octet::Answer, out: &mut [u64]) -> u32
 }
 
 pub fn hand_number(n: Number, out: &mut [u64]) -> u32
-    ensures { λ r. ⌜ Called (thenRoomed (now (out .entry)) (listed one (numberOutcome n))) (now (out .entry)) (now (out .exit)) r ⌝ }
+    ensures { λ r. ⌜ Called (thenRoomed (now (out .entry)) (listed single (numberOutcome n))) (now (out .entry)) (now (out .exit)) r ⌝ }
 {
     match n {
         Number::Value(x) => hand_one(x as u64, out),
@@ -94,7 +94,7 @@ pub fn hand_number(n: Number, out: &mut [u64]) -> u32
 }
 
 pub fn hand_count(c: Count, out: &mut [u64]) -> u32
-    ensures { λ r. ⌜ Called (thenRoomed (now (out .entry)) (listed one (counted c))) (now (out .entry)) (now (out .exit)) r ⌝ }
+    ensures { λ r. ⌜ Called (thenRoomed (now (out .entry)) (listed single (counted c))) (now (out .entry)) (now (out .exit)) r ⌝ }
 {
     match c {
         Count::Ones(n) => hand_one(n as u64, out),

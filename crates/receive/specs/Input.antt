@@ -7,6 +7,6 @@ use Rattle.receive.specs.declared.input.Input.{Input}
 use Rattle.receive.specs.declared.input.Input.the-variants.{All, Failed}
 
 -- as many bytes stand at the front of the store
-abbrev pub Held : Input → List ℕ → Type 0
-Held (All n) ys = Counts n ys
-Held Failed ys = Unit {0}
+abbrev pub InputInside : Input → List ℕ → Type 0
+InputInside (All n) ys = Counts n ys
+InputInside Failed ys = Unit {0}

@@ -7,9 +7,9 @@ ghost use Prim.Native.Nat.{_≤_};
 ghost use lib.ListN.{length};
 use input::Input;
 use libc::STDIN_FILENO;
+use reply::beneath::arguments;
+use reply::beneath::arguments::Target;
 use reply::beneath::replying;
-use reply::beneath::target;
-use reply::beneath::target::Target;
 use reply::beneath::words::Failure;
 
 // `out` is the name of OUT, or empty for standard output. A delivery that fills the store is never taken (`longest`), so none that was cut there is taken
@@ -33,7 +33,7 @@ fn main() {
     let count = os::arg_count();
     let n = os::arg(1, &mut name);
     let whole = os::errno() == 0;
-    let target = target::from_arguments(count, whole, n);
+    let target = arguments::from_arguments(count, whole, n);
     match target {
         Target::Output => receive(b""),
         Target::File => receive(&name[..n]),

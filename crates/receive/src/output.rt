@@ -1,12 +1,12 @@
 // Writing: the object to standard output, or to a file beside OUT that takes OUT's name when it is whole; words to standard error.
 ghost use Prim.Native.Nat.{_≤_};
 ghost use lib.ListN.{length};
-ghost use Rattle.reply.specs.Replies.{AtFront};
+ghost use Rattle.reply.specs.Replies.{ReplyInside};
 use libc::STDERR_FILENO;
 use libc::STDOUT_FILENO;
+use reply::beneath::arguments::Misuse;
 use reply::beneath::names;
 use reply::beneath::replying::Reply;
-use reply::beneath::target::Misuse;
 use reply::beneath::words;
 use reply::beneath::words::Failure;
 
@@ -135,7 +135,7 @@ fn write_object(object: &[u8], out: &[u8])
 }
 
 pub fn write(reply: Reply, store: &[u8], out: &[u8])
-    requires { ⌜ AtFront reply (now store) × (length (now out) ≤ 4000) ⌝ }
+    requires { ⌜ ReplyInside reply (now store) × (length (now out) ≤ 4000) ⌝ }
 {
     match reply {
         Reply::Object(n) => write_object(&store[..n], out),

@@ -14,7 +14,7 @@ use Rattle.delivery.specs.declared.beneath.receiver.Received.{Received}
 use Rattle.delivery.specs.declared.beneath.receiver.Received.the-variants.{Taken, Stopped}
 use Rattle.delivery.proofs.Outcomes.{comes-only, comes-once, object-once, object-in, object-fits}
 use Rattle.reply.specs.Words.{Line, ascii, openWords, stopWords}
-use Rattle.reply.specs.Replies.{AtFront, InWords, Replied, Said, SaidOf, toError, toOutput}
+use Rattle.reply.specs.Replies.{ReplyInside, InWords, Replied, Said, SaidOf, toError, toOutput}
 use Rattle.reply.specs.declared.beneath.replying.Reply.{Reply}
 use Rattle.reply.specs.declared.beneath.replying.Reply.the-variants.{Object, Words}
 use Rattle.reply.proofs.Lines.{counts, line-counts, line-is}
@@ -65,13 +65,13 @@ module _ (d : List ℕ) {xs ys us vs : List ℕ} {n : ℕ} (a : Comes d xs ys (T
       ext-getD 0 (take n ys) (take n vs) (l ∙ sym m)
       (λ k h. getD-take n ys k 0 (omega arith) ∙ object-once d a b k (omega (arith, object-in d a)) ∙ sym (getD-take n vs k 0 (omega arith)))
 
-module _ (d xs us ys vs : List ℕ) (r s : Reply) (f : AtFront r ys) (g : AtFront s vs) where
+module _ (d xs us ys vs : List ℕ) (r s : Reply) (f : ReplyInside r ys) (g : ReplyInside s vs) where
   same-said-of : (v : Verdict) (n : ℕ) (p q : List ℕ) → Comes d xs p (Taken v n) → Comes d us q (Taken v n) → SaidOf n p ys r v → SaidOf n q vs s v → Same r s ys vs
   same-said-of Solved n p q x y a b =
       let x₁ = subst (λ (m : List ℕ). Comes d xs m (Taken Solved n)) (sym (a .1)) x in
       let y₁ = subst (λ (m : List ℕ). Comes d us m (Taken Solved n)) (sym (b .1)) y in
-      let f₁ = subst (λ (t : Reply). AtFront t ys) (a .0) f in
-      let g₁ = subst (λ (t : Reply). AtFront t vs) (b .0) g in (
+      let f₁ = subst (λ (t : Reply). ReplyInside t ys) (a .0) f in
+      let g₁ = subst (λ (t : Reply). ReplyInside t vs) (b .0) g in (
         ap (λ (t : Reply). toOutput t ys) (a .0) ∙ same-object d x₁ y₁ (f₁ .0) (g₁ .0) ∙ sym (ap (λ (t : Reply). toOutput t vs) (b .0)),
         ap (λ (t : Reply). toError t ys) (a .0) ∙ sym (ap (λ (t : Reply). toError t vs) (b .0)),
       )
@@ -91,16 +91,16 @@ module _ (d xs us ys vs : List ℕ) (r s : Reply) (f : AtFront r ys) (g : AtFron
 
 -- ---- what is written stands in the store
 
-words-front : (ws xs ys : List ℕ) (r : Reply) → InWords ws xs ys r → AtFront r ys
+words-front : (ws xs ys : List ℕ) (r : Reply) → InWords ws xs ys r → ReplyInside r ys
 words-front ws xs ys (Object n) u = absurd u
 words-front ws xs ys (Words n) u = line-counts u
 
 module _ (d xs zs ys : List ℕ) (r : Reply) (l : 307200 ≤ length zs) where
-  verdict-front : (v : Verdict) (n : ℕ) → Comes d xs zs (Taken v n) → SaidOf n zs ys r v → AtFront r ys
-  verdict-front Solved n u w = subst (λ (t : Reply). AtFront t ys) (sym (w .0)) (counts ys (omega (arith, object-fits d u, ap length (w .1))))
+  verdict-front : (v : Verdict) (n : ℕ) → Comes d xs zs (Taken v n) → SaidOf n zs ys r v → ReplyInside r ys
+  verdict-front Solved n u w = subst (λ (t : Reply). ReplyInside t ys) (sym (w .0)) (counts ys (omega (arith, object-fits d u, ap length (w .1))))
   verdict-front Contradiction n u w = words-front (ascii "contradiction\n") zs ys r w
   verdict-front (Open m) n u w = words-front (openWords m) zs ys r w
 
-  pub said-front : (o : Received) → Comes d xs zs o → Said zs ys r o → AtFront r ys
+  pub said-front : (o : Received) → Comes d xs zs o → Said zs ys r o → ReplyInside r ys
   said-front (Taken v n) u w = verdict-front v n u w
   said-front (Stopped why) u w = words-front (stopWords why) zs ys r w

@@ -4,9 +4,9 @@ use mathlib.Core.Bool.{Bool, not}
 use Prim.Native.Nat.{ℕ}
 use lib.Dec.{eqb, ltb}
 use Rattle.field.specs.Choice.{pick}
-use Rattle.reply.specs.declared.beneath.target.Misuse.the-variants.{Arguments, NoName, LongName}
-use Rattle.reply.specs.declared.beneath.target.Target.{Target}
-use Rattle.reply.specs.declared.beneath.target.Target.the-variants.{Output, File, Misused}
+use Rattle.reply.specs.declared.beneath.arguments.Misuse.the-variants.{Arguments, NoName, LongName}
+use Rattle.reply.specs.declared.beneath.arguments.Target.{Target}
+use Rattle.reply.specs.declared.beneath.arguments.Target.the-variants.{Output, File, Misused}
 
 abbrev pub targetOf : ℕ → Bool → ℕ → Target
 targetOf count whole n =

@@ -13,8 +13,8 @@ use Rattle.field.specs.declared.refusal.Refusal.{Refusal}
 use Rattle.field.specs.declared.refusal.Refusal.the-variants as Why
 use Rattle.delivery.specs.declared.beneath.screen.Stop.{Stop}
 use Rattle.delivery.specs.declared.beneath.screen.Stop.the-variants as Stops
-use Rattle.reply.specs.declared.beneath.target.Misuse.{Misuse}
-use Rattle.reply.specs.declared.beneath.target.Misuse.the-variants as Misuses
+use Rattle.reply.specs.declared.beneath.arguments.Misuse.{Misuse}
+use Rattle.reply.specs.declared.beneath.arguments.Misuse.the-variants as Misuses
 use Rattle.reply.specs.declared.beneath.words.Failure.{Failure}
 use Rattle.reply.specs.declared.beneath.words.Failure.the-variants as Failures
 

@@ -1,7 +1,7 @@
 -- `receive::receive` is safe.
 -- Assumes nothing.
 use mathlib.Core.Path.{subst}
-use Rattle.receive.specs.Input.{Held}
+use Rattle.receive.specs.Input.{InputInside}
 use Rattle.receive.specs.declared.input.Input.{Input}
 use borrow.Author.Needs.{needs}
 use Rattle.receive.proofs.receive.Statement.{statement}
@@ -26,10 +26,10 @@ returns : tie.Need-returns
 returns c = search needs
 
 array-share-prefix-bytes : tie.Need-array-share-prefix-bytes
-array-share-prefix-bytes c = subst (λ (r : Input). Held r (c .before .before .before .before .read-all .last .1 .0)) (c .before .read .given .1) (c .before .before .before .before .read-all .ensures) .0
+array-share-prefix-bytes c = subst (λ (r : Input). InputInside r (c .before .before .before .before .read-all .last .1 .0)) (c .before .read .given .1) (c .before .before .before .before .read-all .ensures) .0
 
 slice-aggregate-reply-to : tie.Need-slice-aggregate-reply-to
-slice-aggregate-reply-to c = subst (λ (r : Input). Held r (c .before .before .before .before .before .read-all .last .1 .0)) (c .before .before .read .given .1) (c .before .before .before .before .before .read-all .ensures) .1
+slice-aggregate-reply-to c = subst (λ (r : Input). InputInside r (c .before .before .before .before .before .read-all .last .1 .0)) (c .before .before .read .given .1) (c .before .before .before .before .before .read-all .ensures) .1
 
 slice-aggregate-reply-to-2 : tie.Need-slice-aggregate-reply-to-2
 slice-aggregate-reply-to-2 c = search needs

@@ -2,7 +2,7 @@
 ghost use Prim.Native.Nat.{_≤_};
 ghost use lib.ListN.{length};
 ghost use Rattle.reply.specs.Words.{Line, failureWords, misuseWords, openWords, refusalWords, stopWords};
-use crate::beneath::target::Misuse;
+use crate::beneath::arguments::Misuse;
 use delivery::beneath::screen::Stop;
 use field::refusal::Refusal;
 use headers::beneath::big_endian;

@@ -2,7 +2,7 @@
 -- Assumes nothing.
 use denote.Ref.{now}
 use Rattle.exports.proofs.Calls.{called-of, called-fit, called-unfit}
-use Rattle.exports.specs.Call.{one}
+use Rattle.exports.specs.Call.{single}
 use Rattle.stores.specs.Matrix.{onesOf, limited, shape}
 use borrow.Author.Needs.{needs}
 use Rattle.exports.proofs.matrices.spoonripple_matrix_count_ones.Statement.{statement}
@@ -41,7 +41,7 @@ returns-2 c =
     let f = told .before .before .fits2 in
     let a = told .before .before .before .before .before .args in
     called-fit (limited (a .height) (a .width)) _ (f .result) (f .ensures) (onesOf (now (a .words)) (shape (a .height) (a .width)) (a .i) (a .start) (a .end)) (told .enum-told .given .1)
-    (called-of one (c .before .before .before .before .count-ones .ensures) (c .before .before .hand-count .ensures))
+    (called-of single (c .before .before .before .before .count-ones .ensures) (c .before .before .hand-count .ensures))
 
 pub spoonripple-matrix-count-ones-spec : {M : Type 1} → statement M
 spoonripple-matrix-count-ones-spec =

@@ -2,7 +2,7 @@
 -- Assumes nothing.
 use denote.Ref.{now}
 use Rattle.exports.proofs.Calls.{called-of, called-fit, called-unfit}
-use Rattle.exports.specs.Call.{one}
+use Rattle.exports.specs.Call.{single}
 use Rattle.stores.specs.Matrix.{got, limited, shape}
 use borrow.Author.Needs.{needs}
 use Rattle.exports.proofs.matrices.spoonripple_matrix_get.Statement.{statement}
@@ -41,7 +41,7 @@ returns-2 c =
     let f = told .before .before .fits2 in
     let a = told .before .before .before .before .before .args in
     called-fit (limited (a .height) (a .width)) _ (f .result) (f .ensures) (got (now (a .words)) (shape (a .height) (a .width)) (a .i) (a .j)) (told .enum-told .given .1)
-    (called-of one (c .before .before .before .before .get .ensures) (c .before .before .hand-octet .ensures))
+    (called-of single (c .before .before .before .before .get .ensures) (c .before .before .hand-octet .ensures))
 
 pub spoonripple-matrix-get-spec : {M : Type 1} → statement M
 spoonripple-matrix-get-spec =

@@ -1,7 +1,7 @@
 -- `exports::octets::spoonripple_octet_div` meets its contract: room first, then what `octet::div` answers.
 -- Assumes nothing.
 use Rattle.exports.proofs.Calls.{called-of, called-one, called-short, called-roomed}
-use Rattle.exports.specs.Call.{one}
+use Rattle.exports.specs.Call.{single}
 use Rattle.field.specs.Answer.{divided}
 use borrow.Author.Needs.{needs}
 use Rattle.exports.proofs.octets.spoonripple_octet_div.Statement.{statement}
@@ -23,7 +23,7 @@ returns-2 : tie.Need-returns-2
 returns-2 c =
     let a = c .before .before .before .before .before .before .before .args in
     let room = c .before .before .before .before .before .if1 .left in
-    called-roomed _ 1 room (called-one _ (divided (a .a) (a .by)) room (called-of one (c .before .before .before .before .div .ensures) (c .before .before .hand-octet .ensures)))
+    called-roomed _ 1 room (called-one _ (divided (a .a) (a .by)) room (called-of single (c .before .before .before .before .div .ensures) (c .before .before .hand-octet .ensures)))
 
 pub spoonripple-octet-div-spec : {M : Type 1} → statement M
 spoonripple-octet-div-spec =

@@ -2,7 +2,7 @@
 -- Assumes nothing.
 use mathlib.Core.Path.{refl, sym, ap, _∙_}
 use Rattle.exports.proofs.Calls.{called-of, called-refused}
-use Rattle.exports.specs.Call.{one}
+use Rattle.exports.specs.Call.{single}
 use Rattle.headers.specs.Shift.{isiOutcome}
 use borrow.Author.Needs.{needs}
 use Rattle.exports.proofs.tuples.spoonripple_isi.Statement.{statement}
@@ -35,12 +35,12 @@ same-length c = search needs
 returns : tie.Need-returns
 returns c =
     let found = c .before .before .before .before .before .before in
-    called-of one (sym (ap isiOutcome (found .x .given .1)) ∙ found .before .before .isi-of .ensures) (rw (c .before .before .before .before .number .ensures) at (c .before .before .hand-one .ensures))
+    called-of single (sym (ap isiOutcome (found .x .given .1)) ∙ found .before .before .isi-of .ensures) (rw (c .before .before .before .before .number .ensures) at (c .before .before .hand-one .ensures))
 
 returns-2 : tie.Need-returns-2
 returns-2 c =
     let found = c .before .before in
-    called-refused one (sym (ap isiOutcome (found .why .given .1)) ∙ found .before .before .isi-of .ensures) (c .number2 .ensures) refl
+    called-refused single (sym (ap isiOutcome (found .why .given .1)) ∙ found .before .before .isi-of .ensures) (c .number2 .ensures) refl
 
 pub spoonripple-isi-spec : {M : Type 1} → statement M
 spoonripple-isi-spec =

@@ -2,7 +2,7 @@
 -- Assumes nothing.
 use mathlib.Core.Path.{refl, sym, ap}
 use Rattle.exports.proofs.Calls.{called-of, called-refused}
-use Rattle.exports.specs.Call.{one}
+use Rattle.exports.specs.Call.{single}
 use Rattle.stores.specs.Matrix.{counted}
 use borrow.Author.Needs.{needs}
 use Rattle.exports.proofs.values.hand_count.Statement.{statement}
@@ -24,10 +24,10 @@ same-length : tie.Need-same-length
 same-length c = search needs
 
 returns : tie.Need-returns
-returns c = called-of one (sym (ap counted (c .before .before .before .before .before .c .given .1))) (c .before .before .hand-one .ensures)
+returns c = called-of single (sym (ap counted (c .before .before .before .before .before .c .given .1))) (c .before .before .hand-one .ensures)
 
 returns-2 : tie.Need-returns-2
-returns-2 c = called-refused one (sym (ap counted (c .before .before .c2 .given .1))) (c .number .ensures) refl
+returns-2 c = called-refused single (sym (ap counted (c .before .before .c2 .given .1))) (c .number .ensures) refl
 
 pub hand-count-spec : {M : Type 1} → statement M
 hand-count-spec =

@@ -2,7 +2,7 @@
 -- Assumes nothing.
 use mathlib.Core.Path.{refl, sym, ap}
 use Rattle.exports.proofs.Calls.{called-of, called-refused}
-use Rattle.exports.specs.Call.{one}
+use Rattle.exports.specs.Call.{single}
 use Rattle.headers.specs.Number.{numberOutcome}
 use borrow.Author.Needs.{needs}
 use Rattle.exports.proofs.values.hand_number.Statement.{statement}
@@ -27,10 +27,10 @@ same-length : tie.Need-same-length
 same-length c = search needs
 
 returns : tie.Need-returns
-returns c = called-of one (sym (ap numberOutcome (c .before .before .before .before .before .n .given .1))) (c .before .before .hand-one .ensures)
+returns c = called-of single (sym (ap numberOutcome (c .before .before .before .before .before .n .given .1))) (c .before .before .hand-one .ensures)
 
 returns-2 : tie.Need-returns-2
-returns-2 c = called-refused one (sym (ap numberOutcome (c .before .before .n2 .given .1))) (c .number .ensures) refl
+returns-2 c = called-refused single (sym (ap numberOutcome (c .before .before .n2 .given .1))) (c .number .ensures) refl
 
 pub hand-number-spec : {M : Type 1} → statement M
 hand-number-spec =
