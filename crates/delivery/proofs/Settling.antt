@@ -33,8 +33,8 @@ use Rattle.delivery.proofs.Screening.{Sound, sound, packets-in}
 use Rattle.delivery.proofs.Gathering.{esi-small}
 
 -- what was left for a verdict, under another name of it
-pub left : (v : List ℕ) (r : Row) (k t : ℕ) (C xs ys : List ℕ) (w : Verdict) {u : Verdict} → u ≡ w → Leaves v r k t C xs ys w → Leaves v r k t C xs ys u
-left v r k t C xs ys w e h = subst (Leaves v r k t C xs ys) (sym e) h
+pub leaves-as : (v : List ℕ) (r : Row) (k t : ℕ) (C xs ys : List ℕ) (w : Verdict) {u : Verdict} → u ≡ w → Leaves v r k t C xs ys w → Leaves v r k t C xs ys u
+leaves-as v r k t C xs ys w e h = subst (Leaves v r k t C xs ys) (sym e) h
 
 module _ {r : Row} {v : List ℕ} {k t : ℕ} {es xs : List ℕ} (h : Holdable r v k t es xs) where
   pub rows-fit : equations r k (length es) * lOf r ≤ 108000

@@ -14,7 +14,7 @@ use reply::beneath::words::Failure;
 
 // `out` is the name of OUT, or empty for standard output. A delivery that fills the store is never taken (`longest`), so none that was cut there is taken
 // for a whole one.
-fn receive(out: &[u8])
+fn run(out: &[u8])
     requires { ⌜ length (now out) ≤ 4000 ⌝ }
 {
     let mut bytes = [0u8; 375236];
@@ -35,8 +35,8 @@ fn main() {
     let whole = os::errno() == 0;
     let target = arguments::from_arguments(count, whole, n);
     match target {
-        Target::Output => receive(b""),
-        Target::File => receive(&name[..n]),
+        Target::Output => run(b""),
+        Target::File => run(&name[..n]),
         Target::Misused(why) => output::misused(why),
     }
 }

@@ -1,7 +1,7 @@
 // Writing: the object to standard output, or to a file beside OUT that takes OUT's name when it is whole; words to standard error.
 ghost use Prim.Native.Nat.{_≤_};
 ghost use lib.ListN.{length};
-ghost use Rattle.reply.specs.Replies.{ReplyInside};
+ghost use Rattle.reply.specs.Replies.{InStore};
 use libc::STDERR_FILENO;
 use libc::STDOUT_FILENO;
 use reply::beneath::arguments::Misuse;
@@ -93,7 +93,7 @@ fn put_or_remove(fd: i32, object: &[u8], name: &[u8], out: &[u8]) {
 }
 
 // With the file of number i. Whether that name was taken, so that the next has to be tried.
-fn attempt(object: &[u8], out: &[u8], i: u32) -> bool
+fn try_number(object: &[u8], out: &[u8], i: u32) -> bool
     requires { ⌜ length (now out) ≤ 4000 ⌝ }
 {
     let mut name = io::buffer();
@@ -116,7 +116,7 @@ fn to_file(object: &[u8], out: &[u8])
 {
     let mut i = 0;
     while i < 1000 {
-        if !attempt(object, out, i) {
+        if !try_number(object, out, i) {
             return;
         }
         i += 1;
@@ -135,7 +135,7 @@ fn write_object(object: &[u8], out: &[u8])
 }
 
 pub fn write(reply: Reply, store: &[u8], out: &[u8])
-    requires { ⌜ ReplyInside reply (now store) × (length (now out) ≤ 4000) ⌝ }
+    requires { ⌜ InStore reply (now store) × (length (now out) ≤ 4000) ⌝ }
 {
     match reply {
         Reply::Object(n) => write_object(&store[..n], out),

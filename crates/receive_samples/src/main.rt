@@ -1,6 +1,6 @@
 // The receiving program's work on each delivery of data/, which differential/samples makes. For each its name, what it comes to (the bytes of an object,
 // for standard output, or words, for standard error), how many bytes that is, and these bytes.
-ghost use Rattle.reply.specs.Replies.{ReplyInside};
+ghost use Rattle.reply.specs.Replies.{InStore};
 use libc::STDOUT_FILENO;
 use reply::beneath::replying;
 use reply::beneath::replying::Reply;
@@ -13,7 +13,7 @@ fn part(label: &[u8], bytes: &[u8]) {
 }
 
 fn show(reply: Reply, store: &[u8])
-    requires { ⌜ ReplyInside reply (now store) ⌝ }
+    requires { ⌜ InStore reply (now store) ⌝ }
 {
     match reply {
         Reply::Object(n) => part(b": object, ", &store[..n]),

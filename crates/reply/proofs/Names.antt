@@ -92,10 +92,10 @@ module _ (path : List ℕ) (k i : ℕ) (h : k ≤ length path) where
 pub beside-apart : (path : List ℕ) (k i : ℕ) → k ≤ length path → besideOf path k i ≡ path → ⊥
 beside-apart path k i h e = omega (arith, beside-length path k i h, ap length e)
 
-abbrev Free : List ℕ → Type 0
-Free xs = (i : ℕ) → i < length xs → getD xs i 0 ≡ 47 → ⊥
+abbrev NoSlash : List ℕ → Type 0
+NoSlash xs = (i : ℕ) → i < length xs → getD xs i 0 ≡ 47 → ⊥
 
-free-append : (xs ys : List ℕ) → Free xs → Free ys → Free (xs ++ ys)
+free-append : (xs ys : List ℕ) → NoSlash xs → NoSlash ys → NoSlash (xs ++ ys)
 free-append xs ys f g i h e = go (decLt i (length xs))
   where
     go : Dec (i < length xs) → ⊥
@@ -105,24 +105,24 @@ free-append xs ys f g i h e = go (decLt i (length xs))
         g (i - length xs) (omega (arith, length-append xs ys))
         (sym (getD-append-add xs ys (i - length xs) 0) ∙ ap (λ (n : ℕ). getD (xs ++ ys) n 0) q ∙ e)
 
-free-one : (x : ℕ) → (x ≡ 47 → ⊥) → Free (x ∷ [])
+free-one : (x : ℕ) → (x ≡ 47 → ⊥) → NoSlash (x ∷ [])
 free-one x f zero h e = f e
 free-one x f (suc i) h e = absurd (omega arith)
 
-free-spelled : (n x : ℕ) → Free (spelled n x)
+free-spelled : (n x : ℕ) → NoSlash (spelled n x)
 unfolding spelled
 free-spelled zero x = λ i h e. absurd (omega arith)
 free-spelled (suc n) x = go (ltb x 10) (free-spelled n (x / 10))
   where
-    go : (b : Bool) → Free (spelled n (x / 10)) → Free (pick b ((48 + x) ∷ []) (spelled n (x / 10) ++ ((48 + x % 10) ∷ [])))
+    go : (b : Bool) → NoSlash (spelled n (x / 10)) → NoSlash (pick b ((48 + x) ∷ []) (spelled n (x / 10) ++ ((48 + x % 10) ∷ [])))
     go true f = free-one (48 + x) (λ e. omega arith)
     go false f = free-append (spelled n (x / 10)) ((48 + x % 10) ∷ []) f (free-one (48 + x % 10) (λ e. omega arith))
 
-free-suffix : Free (ascii ".receive-")
+free-suffix : NoSlash (ascii ".receive-")
 free-suffix i h e = subst (λ (x : ℕ). T (not (eqb x 47))) e (under 9 (λ k. not (eqb (getD (ascii ".receive-") k 0) 47)) tt i h)
 
 module _ (path : List ℕ) (k i : ℕ) (u : LastPart path k) where
-  free-tail : Free (ascii "." ++ (drop k path ++ (ascii ".receive-" ++ spelled 20 i)))
+  free-tail : NoSlash (ascii "." ++ (drop k path ++ (ascii ".receive-" ++ spelled 20 i)))
   free-tail =
       free-append (ascii ".") (drop k path ++ (ascii ".receive-" ++ spelled 20 i)) (free-one 46 (λ e. omega arith))
       (free-append (drop k path) (ascii ".receive-" ++ spelled 20 i)

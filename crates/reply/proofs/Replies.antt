@@ -14,7 +14,7 @@ use Rattle.delivery.specs.declared.beneath.receiver.Received.{Received}
 use Rattle.delivery.specs.declared.beneath.receiver.Received.the-variants.{Taken, Stopped}
 use Rattle.delivery.proofs.Outcomes.{comes-only, comes-once, object-once, object-in, object-fits}
 use Rattle.reply.specs.Words.{Line, ascii, openWords, stopWords}
-use Rattle.reply.specs.Replies.{ReplyInside, InWords, Replied, Said, SaidOf, toError, toOutput}
+use Rattle.reply.specs.Replies.{InStore, InWords, Replied, Said, SaidOf, toError, toOutput}
 use Rattle.reply.specs.declared.beneath.replying.Reply.{Reply}
 use Rattle.reply.specs.declared.beneath.replying.Reply.the-variants.{Object, Words}
 use Rattle.reply.proofs.Lines.{counts, line-counts, line-is}
@@ -47,11 +47,11 @@ replied-once {d} {xs} {ys} {zs} {r} {s} a b =
 
 -- ---- the content of both streams, whatever the store held before
 
-abbrev Same : (r s : Reply) (ys vs : List ℕ) → Type 0
-Same r s ys vs = (toOutput r ys ≡ toOutput s vs) × (toError r ys ≡ toError s vs)
+abbrev SameStreams : (r s : Reply) (ys vs : List ℕ) → Type 0
+SameStreams r s ys vs = (toOutput r ys ≡ toOutput s vs) × (toError r ys ≡ toError s vs)
 
 module _ (ws xs ys us vs : List ℕ) where
-  same-words : (r s : Reply) → InWords ws xs ys r → InWords ws us vs s → Same r s ys vs
+  same-words : (r s : Reply) → InWords ws xs ys r → InWords ws us vs s → SameStreams r s ys vs
   same-words (Object m) (Object n) a b = absurd a
   same-words (Object m) (Words n) a b = absurd a
   same-words (Words m) (Object n) a b = absurd b
@@ -65,20 +65,20 @@ module _ (d : List ℕ) {xs ys us vs : List ℕ} {n : ℕ} (a : Comes d xs ys (T
       ext-getD 0 (take n ys) (take n vs) (l ∙ sym m)
       (λ k h. getD-take n ys k 0 (omega arith) ∙ object-once d a b k (omega (arith, object-in d a)) ∙ sym (getD-take n vs k 0 (omega arith)))
 
-module _ (d xs us ys vs : List ℕ) (r s : Reply) (f : ReplyInside r ys) (g : ReplyInside s vs) where
-  same-said-of : (v : Verdict) (n : ℕ) (p q : List ℕ) → Comes d xs p (Taken v n) → Comes d us q (Taken v n) → SaidOf n p ys r v → SaidOf n q vs s v → Same r s ys vs
+module _ (d xs us ys vs : List ℕ) (r s : Reply) (f : InStore r ys) (g : InStore s vs) where
+  same-said-of : (v : Verdict) (n : ℕ) (p q : List ℕ) → Comes d xs p (Taken v n) → Comes d us q (Taken v n) → SaidOf n p ys r v → SaidOf n q vs s v → SameStreams r s ys vs
   same-said-of Solved n p q x y a b =
       let x₁ = subst (λ (m : List ℕ). Comes d xs m (Taken Solved n)) (sym (a .1)) x in
       let y₁ = subst (λ (m : List ℕ). Comes d us m (Taken Solved n)) (sym (b .1)) y in
-      let f₁ = subst (λ (t : Reply). ReplyInside t ys) (a .0) f in
-      let g₁ = subst (λ (t : Reply). ReplyInside t vs) (b .0) g in (
+      let f₁ = subst (λ (t : Reply). InStore t ys) (a .0) f in
+      let g₁ = subst (λ (t : Reply). InStore t vs) (b .0) g in (
         ap (λ (t : Reply). toOutput t ys) (a .0) ∙ same-object d x₁ y₁ (f₁ .0) (g₁ .0) ∙ sym (ap (λ (t : Reply). toOutput t vs) (b .0)),
         ap (λ (t : Reply). toError t ys) (a .0) ∙ sym (ap (λ (t : Reply). toError t vs) (b .0)),
       )
   same-said-of Contradiction n p q x y a b = same-words (ascii "contradiction\n") p ys q vs r s a b
   same-said-of (Open m) n p q x y a b = same-words (openWords m) p ys q vs r s a b
 
-  same-said : (o : Received) (p q : List ℕ) → Comes d xs p o → Comes d us q o → Said p ys r o → Said q vs s o → Same r s ys vs
+  same-said : (o : Received) (p q : List ℕ) → Comes d xs p o → Comes d us q o → Said p ys r o → Said q vs s o → SameStreams r s ys vs
   same-said (Taken v n) p q x y a b = same-said-of v n p q x y a b
   same-said (Stopped why) p q x y a b = same-words (stopWords why) p ys q vs r s a b
 
@@ -91,16 +91,16 @@ module _ (d xs us ys vs : List ℕ) (r s : Reply) (f : ReplyInside r ys) (g : Re
 
 -- ---- what is written stands in the store
 
-words-front : (ws xs ys : List ℕ) (r : Reply) → InWords ws xs ys r → ReplyInside r ys
+words-front : (ws xs ys : List ℕ) (r : Reply) → InWords ws xs ys r → InStore r ys
 words-front ws xs ys (Object n) u = absurd u
 words-front ws xs ys (Words n) u = line-counts u
 
 module _ (d xs zs ys : List ℕ) (r : Reply) (l : 307200 ≤ length zs) where
-  verdict-front : (v : Verdict) (n : ℕ) → Comes d xs zs (Taken v n) → SaidOf n zs ys r v → ReplyInside r ys
-  verdict-front Solved n u w = subst (λ (t : Reply). ReplyInside t ys) (sym (w .0)) (counts ys (omega (arith, object-fits d u, ap length (w .1))))
+  verdict-front : (v : Verdict) (n : ℕ) → Comes d xs zs (Taken v n) → SaidOf n zs ys r v → InStore r ys
+  verdict-front Solved n u w = subst (λ (t : Reply). InStore t ys) (sym (w .0)) (counts ys (omega (arith, object-fits d u, ap length (w .1))))
   verdict-front Contradiction n u w = words-front (ascii "contradiction\n") zs ys r w
   verdict-front (Open m) n u w = words-front (openWords m) zs ys r w
 
-  pub said-front : (o : Received) → Comes d xs zs o → Said zs ys r o → ReplyInside r ys
+  pub said-front : (o : Received) → Comes d xs zs o → Said zs ys r o → InStore r ys
   said-front (Taken v n) u w = verdict-front v n u w
   said-front (Stopped why) u w = words-front (stopWords why) zs ys r w

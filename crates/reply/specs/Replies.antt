@@ -24,9 +24,9 @@ toError (Object n) ys = []
 toError (Words n) ys = take n ys
 
 -- there are as many bytes
-abbrev pub ReplyInside : Reply → List ℕ → Type 0
-ReplyInside (Object n) ys = Counts n ys
-ReplyInside (Words n) ys = Counts n ys
+abbrev pub InStore : Reply → List ℕ → Type 0
+InStore (Object n) ys = Counts n ys
+InStore (Words n) ys = Counts n ys
 
 -- a line for standard error; xs is the store before, ys after
 abbrev pub InWords : List ℕ → (xs ys : List ℕ) → Reply → Type 0

@@ -1,7 +1,7 @@
 -- `receive_samples::show` is safe: as many bytes as are shown stand in the store.
 -- Assumes nothing.
 use mathlib.Core.Path.{subst}
-use Rattle.reply.specs.Replies.{ReplyInside}
+use Rattle.reply.specs.Replies.{InStore}
 use Rattle.reply.specs.declared.beneath.replying.Reply.{Reply}
 use borrow.Author.Needs.{needs}
 use Rattle.receive_samples.proofs.show.Statement.{statement}
@@ -16,7 +16,7 @@ slice-aggregate-part c = search needs
 slice-aggregate-part-2 : tie.Need-slice-aggregate-part-2
 slice-aggregate-part-2 c =
     let s = c .before .before .before .before .before .before in
-    subst (λ (r : Reply). ReplyInside r (s .args .store .now)) (c .before .before .before .reply .given .1) (s .pre) .1
+    subst (λ (r : Reply). InStore r (s .args .store .now)) (c .before .before .before .reply .given .1) (s .pre) .1
 
 part-requires : tie.Need-part-requires
 part-requires c κs = search needs
@@ -30,7 +30,7 @@ slice-aggregate-part-3 c = search needs
 slice-aggregate-part-4 : tie.Need-slice-aggregate-part-4
 slice-aggregate-part-4 c =
     let s = c .before .before .before .before .before .before in
-    subst (λ (r : Reply). ReplyInside r (s .args .store .now)) (c .before .before .before .reply2 .given .1) (s .pre) .1
+    subst (λ (r : Reply). InStore r (s .args .store .now)) (c .before .before .before .reply2 .given .1) (s .pre) .1
 
 part-requires-2 : tie.Need-part-requires-2
 part-requires-2 c κs = search needs

@@ -1,7 +1,7 @@
 // What is written of a delivery, and to which stream.
 ghost use Prim.Native.Nat.{_≤_};
 ghost use lib.ListN.{length};
-ghost use Rattle.reply.specs.Replies.{ReplyInside, Replied, Said, SaidOf};
+ghost use Rattle.reply.specs.Replies.{InStore, Replied, Said, SaidOf};
 use crate::beneath::words;
 use delivery::beneath::receiver;
 use delivery::beneath::receiver::Received;
@@ -19,7 +19,7 @@ fn say_verdict(out: &mut [u8], v: Verdict, f: usize) -> Reply
 {
     match v {
         Verdict::Solved => Reply::Object(f),
-        Verdict::Contradiction => Reply::Words(words::line(out, b"contradiction\n")),
+        Verdict::Contradiction => Reply::Words(words::write_line(out, b"contradiction\n")),
         Verdict::Open(s) => Reply::Words(words::open(out, s)),
     }
 }
@@ -38,7 +38,7 @@ fn say(out: &mut [u8], what: Received) -> Reply
 pub fn reply_to(bytes: &[u8], out: &mut [u8]) -> Reply
     requires { ⌜ 307200 ≤ length (now out) ⌝ }
     ensures { λ r. ⌜ Replied (now (bytes .entry)) (now (out .entry)) (now (out .exit)) r ⌝ }
-    ensures { λ r. ⌜ ReplyInside r (now (out .exit)) ⌝ }
+    ensures { λ r. ⌜ InStore r (now (out .exit)) ⌝ }
 {
     let what = receiver::receive(bytes, out);
     say(out, what)

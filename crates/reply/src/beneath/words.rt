@@ -19,7 +19,7 @@ pub enum Failure {
     Removing,
 }
 
-pub fn line(out: &mut [u8], words: &[u8]) -> usize
+pub fn write_line(out: &mut [u8], words: &[u8]) -> usize
     requires { ⌜ length (now words) ≤ length (now out) ⌝ }
     ensures { λ r. ⌜ Line (now (words .entry)) (now (out .entry)) (now (out .exit)) r ⌝ }
 {
@@ -32,22 +32,28 @@ fn refused(out: &mut [u8], why: Refusal) -> usize
     ensures { λ r. ⌜ Line (refusalWords why) (now (out .entry)) (now (out .exit)) r ⌝ }
 {
     match why {
-        Refusal::DivisorZero => line(out, b"refused 1: an octet is divided by 0\n"),
-        Refusal::OutOfRange => line(out, b"refused 2: a number is outside its range\n"),
-        Refusal::BadTransmission => line(
+        Refusal::DivisorZero => write_line(out, b"refused 1: an octet is divided by 0\n"),
+        Refusal::OutOfRange => write_line(out, b"refused 2: a number is outside its range\n"),
+        Refusal::BadTransmission => write_line(
             out,
             b"refused 3: the transmission information breaks its rules\n",
         ),
-        Refusal::BadRow => line(out, b"refused 4: the parameter row breaks its rules\n"),
-        Refusal::BadTables => line(out, b"refused 5: the random tables are not 1,024 numbers\n"),
-        Refusal::Outside => line(out, b"refused 6: a place is outside\n"),
-        Refusal::SamePlace => line(out, b"refused 7: destination and source are one\n"),
-        Refusal::WrongLength => line(out, b"refused 8: the delivery ends in its first 32 bytes\n"),
-        Refusal::BadCount => line(
+        Refusal::BadRow => write_line(out, b"refused 4: the parameter row breaks its rules\n"),
+        Refusal::BadTables => write_line(
+            out,
+            b"refused 5: the random tables are not 1,024 numbers\n",
+        ),
+        Refusal::Outside => write_line(out, b"refused 6: a place is outside\n"),
+        Refusal::SamePlace => write_line(out, b"refused 7: destination and source are one\n"),
+        Refusal::WrongLength => write_line(
+            out,
+            b"refused 8: the delivery ends in its first 32 bytes\n",
+        ),
+        Refusal::BadCount => write_line(
             out,
             b"refused 9: the count of source symbols is not from 1 to K'\n",
         ),
-        Refusal::BadSize => line(
+        Refusal::BadSize => write_line(
             out,
             b"refused 10: the symbol size is 0, or the last packet is not whole\n",
         ),
@@ -60,15 +66,15 @@ pub fn stopped(out: &mut [u8], why: Stop) -> usize
 {
     match why {
         Stop::Refused(w) => refused(out, w),
-        Stop::TooLarge => line(
+        Stop::TooLarge => write_line(
             out,
             b"too large for this program: T is at most 1,024, L at most 300, the equations at most 360\n",
         ),
-        Stop::SeveralBlocks => line(
+        Stop::SeveralBlocks => write_line(
             out,
             b"several blocks: this program takes one source block of one sub-block\n",
         ),
-        Stop::OtherBlock => line(
+        Stop::OtherBlock => write_line(
             out,
             b"another block: a packet has a block number other than 0\n",
         ),
@@ -92,12 +98,12 @@ pub fn misused(out: &mut [u8], why: Misuse) -> usize
     ensures { λ r. ⌜ Line (misuseWords why) (now (out .entry)) (now (out .exit)) r ⌝ }
 {
     match why {
-        Misuse::Arguments => line(
+        Misuse::Arguments => write_line(
             out,
             b"more than one argument: it is receive, or receive OUT, with the delivery on standard input\n",
         ),
-        Misuse::NoName => line(out, b"the name of OUT is empty\n"),
-        Misuse::LongName => line(out, b"the name of OUT has more than 4,000 bytes\n"),
+        Misuse::NoName => write_line(out, b"the name of OUT is empty\n"),
+        Misuse::LongName => write_line(out, b"the name of OUT has more than 4,000 bytes\n"),
     }
 }
 
@@ -106,13 +112,13 @@ pub fn failed(out: &mut [u8], what: Failure) -> usize
     ensures { λ r. ⌜ Line (failureWords what) (now (out .entry)) (now (out .exit)) r ⌝ }
 {
     match what {
-        Failure::Reading => line(out, b"standard input cannot be read"),
-        Failure::Output => line(out, b"standard output cannot be written"),
-        Failure::Making => line(out, b"no file can be made beside OUT"),
-        Failure::Writing => line(out, b"the file beside OUT cannot be written"),
-        Failure::Syncing => line(out, b"the file beside OUT cannot be synced"),
-        Failure::Closing => line(out, b"the file beside OUT cannot be closed"),
-        Failure::Renaming => line(out, b"the file beside OUT cannot be renamed to OUT"),
-        Failure::Removing => line(out, b"the file beside OUT cannot be removed"),
+        Failure::Reading => write_line(out, b"standard input cannot be read"),
+        Failure::Output => write_line(out, b"standard output cannot be written"),
+        Failure::Making => write_line(out, b"no file can be made beside OUT"),
+        Failure::Writing => write_line(out, b"the file beside OUT cannot be written"),
+        Failure::Syncing => write_line(out, b"the file beside OUT cannot be synced"),
+        Failure::Closing => write_line(out, b"the file beside OUT cannot be closed"),
+        Failure::Renaming => write_line(out, b"the file beside OUT cannot be renamed to OUT"),
+        Failure::Removing => write_line(out, b"the file beside OUT cannot be removed"),
     }
 }

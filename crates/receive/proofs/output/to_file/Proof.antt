@@ -14,8 +14,8 @@ abbrev μ-loop : tie.MeasureT-loop
 loop-holds : tie.Need-loop-holds Inv-loop μ-loop
 loop-holds c = search needs
 
-attempt-requires : tie.Need-attempt-requires Inv-loop μ-loop
-attempt-requires c κs = search needs
+try-number-requires : tie.Need-try-number-requires Inv-loop μ-loop
+try-number-requires c κs = search needs
 
 returns : tie.Need-returns Inv-loop μ-loop
 returns c = search needs
@@ -42,7 +42,7 @@ to-file-spec =
     Inv-loop
     μ-loop
     loop-holds
-    attempt-requires
+    try-number-requires
     returns
     add-i
     loop-less

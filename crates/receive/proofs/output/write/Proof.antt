@@ -1,7 +1,7 @@
 -- `receive::output::write` is safe: as many bytes as are written stand in the store.
 -- Assumes nothing.
 use mathlib.Core.Path.{subst}
-use Rattle.reply.specs.Replies.{ReplyInside}
+use Rattle.reply.specs.Replies.{InStore}
 use Rattle.reply.specs.declared.beneath.replying.Reply.{Reply}
 use borrow.Author.Needs.{needs}
 use Rattle.receive.proofs.output.write.Statement.{statement}
@@ -13,7 +13,7 @@ enum-known-reply c = search needs
 slice-aggregate-write-object : tie.Need-slice-aggregate-write-object
 slice-aggregate-write-object c =
     let s = c .before .before .before .before .before .before in
-    subst (λ (r : Reply). ReplyInside r (s .args .store .now)) (c .before .before .reply .given .1) (s .pre .0) .1
+    subst (λ (r : Reply). InStore r (s .args .store .now)) (c .before .before .reply .given .1) (s .pre .0) .1
 
 write-object-requires : tie.Need-write-object-requires
 write-object-requires c κs = search needs
@@ -24,7 +24,7 @@ enum-known-reply-2 c = search needs
 slice-aggregate-write-all : tie.Need-slice-aggregate-write-all
 slice-aggregate-write-all c =
     let s = c .before .before .before .before .before .before in
-    subst (λ (r : Reply). ReplyInside r (s .args .store .now)) (c .before .before .reply2 .given .1) (s .pre .0) .1
+    subst (λ (r : Reply). InStore r (s .args .store .now)) (c .before .before .reply2 .given .1) (s .pre .0) .1
 
 write-all-requires : tie.Need-write-all-requires
 write-all-requires c κs = search needs

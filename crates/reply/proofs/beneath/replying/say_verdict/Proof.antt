@@ -12,11 +12,11 @@ enum-told c = search needs
 enum-told-2 : tie.Need-enum-told-2
 enum-told-2 c = search needs
 
-slice-aggregate-line : tie.Need-slice-aggregate-line
-slice-aggregate-line c = search needs
+slice-aggregate-write-line : tie.Need-slice-aggregate-write-line
+slice-aggregate-write-line c = search needs
 
-line-requires : tie.Need-line-requires
-line-requires c κs = search needs
+write-line-requires : tie.Need-write-line-requires
+write-line-requires c κs = search needs
 
 enum-known-v : tie.Need-enum-known-v
 enum-known-v c = search needs
@@ -31,7 +31,7 @@ same-length : tie.Need-same-length
 same-length c = search needs
 
 returns-2 : tie.Need-returns-2
-returns-2 c = subst (SaidOf _ _ _ _) (sym (c .before .before .before .before .before .enum-told2 .given .1)) (c .before .before .line .ensures)
+returns-2 c = subst (SaidOf _ _ _ _) (sym (c .before .before .before .before .before .enum-told2 .given .1)) (c .before .before .write-line .ensures)
 
 same-length-2 : tie.Need-same-length-2
 same-length-2 c = search needs
@@ -45,8 +45,8 @@ say-verdict-spec =
     (tie.spec
     enum-told
     enum-told-2
-    slice-aggregate-line
-    line-requires
+    slice-aggregate-write-line
+    write-line-requires
     enum-known-v
     open-requires
     returns

@@ -10,151 +10,151 @@ use Rattle.reply.proofs.beneath.words.failed.Tie as tie
 enum-told : tie.Need-enum-told
 enum-told c = search needs
 
-slice-aggregate-line : tie.Need-slice-aggregate-line
-slice-aggregate-line c = search needs
+slice-aggregate-write-line : tie.Need-slice-aggregate-write-line
+slice-aggregate-write-line c = search needs
 
-line-requires : tie.Need-line-requires
-line-requires c κs = search needs
+write-line-requires : tie.Need-write-line-requires
+write-line-requires c κs = search needs
 
 enum-told-2 : tie.Need-enum-told-2
 enum-told-2 c = search needs
 
-slice-aggregate-line-2 : tie.Need-slice-aggregate-line-2
-slice-aggregate-line-2 c = search needs
+slice-aggregate-write-line-2 : tie.Need-slice-aggregate-write-line-2
+slice-aggregate-write-line-2 c = search needs
 
-line-requires-2 : tie.Need-line-requires-2
-line-requires-2 c κs = search needs
+write-line-requires-2 : tie.Need-write-line-requires-2
+write-line-requires-2 c κs = search needs
 
 enum-told-3 : tie.Need-enum-told-3
 enum-told-3 c = search needs
 
-slice-aggregate-line-3 : tie.Need-slice-aggregate-line-3
-slice-aggregate-line-3 c = search needs
+slice-aggregate-write-line-3 : tie.Need-slice-aggregate-write-line-3
+slice-aggregate-write-line-3 c = search needs
 
-line-requires-3 : tie.Need-line-requires-3
-line-requires-3 c κs = search needs
+write-line-requires-3 : tie.Need-write-line-requires-3
+write-line-requires-3 c κs = search needs
 
 enum-told-4 : tie.Need-enum-told-4
 enum-told-4 c = search needs
 
-slice-aggregate-line-4 : tie.Need-slice-aggregate-line-4
-slice-aggregate-line-4 c = search needs
+slice-aggregate-write-line-4 : tie.Need-slice-aggregate-write-line-4
+slice-aggregate-write-line-4 c = search needs
 
-line-requires-4 : tie.Need-line-requires-4
-line-requires-4 c κs = search needs
+write-line-requires-4 : tie.Need-write-line-requires-4
+write-line-requires-4 c κs = search needs
 
 enum-told-5 : tie.Need-enum-told-5
 enum-told-5 c = search needs
 
-slice-aggregate-line-5 : tie.Need-slice-aggregate-line-5
-slice-aggregate-line-5 c = search needs
+slice-aggregate-write-line-5 : tie.Need-slice-aggregate-write-line-5
+slice-aggregate-write-line-5 c = search needs
 
-line-requires-5 : tie.Need-line-requires-5
-line-requires-5 c κs = search needs
+write-line-requires-5 : tie.Need-write-line-requires-5
+write-line-requires-5 c κs = search needs
 
 enum-told-6 : tie.Need-enum-told-6
 enum-told-6 c = search needs
 
-slice-aggregate-line-6 : tie.Need-slice-aggregate-line-6
-slice-aggregate-line-6 c = search needs
+slice-aggregate-write-line-6 : tie.Need-slice-aggregate-write-line-6
+slice-aggregate-write-line-6 c = search needs
 
-line-requires-6 : tie.Need-line-requires-6
-line-requires-6 c κs = search needs
+write-line-requires-6 : tie.Need-write-line-requires-6
+write-line-requires-6 c κs = search needs
 
 enum-told-7 : tie.Need-enum-told-7
 enum-told-7 c = search needs
 
-slice-aggregate-line-7 : tie.Need-slice-aggregate-line-7
-slice-aggregate-line-7 c = search needs
+slice-aggregate-write-line-7 : tie.Need-slice-aggregate-write-line-7
+slice-aggregate-write-line-7 c = search needs
 
-line-requires-7 : tie.Need-line-requires-7
-line-requires-7 c κs = search needs
+write-line-requires-7 : tie.Need-write-line-requires-7
+write-line-requires-7 c κs = search needs
 
 enum-told-8 : tie.Need-enum-told-8
 enum-told-8 c = search needs
 
-slice-aggregate-line-8 : tie.Need-slice-aggregate-line-8
-slice-aggregate-line-8 c = search needs
+slice-aggregate-write-line-8 : tie.Need-slice-aggregate-write-line-8
+slice-aggregate-write-line-8 c = search needs
 
-line-requires-8 : tie.Need-line-requires-8
-line-requires-8 c κs = search needs
+write-line-requires-8 : tie.Need-write-line-requires-8
+write-line-requires-8 c κs = search needs
 
 same-length : tie.Need-same-length
 same-length c = search needs
 
 returns : tie.Need-returns
-returns c = line-as (c .before .before .line .ensures) (ap failureWords (sym (c .before .before .before .before .before .enum-told .given .1)))
+returns c = line-as (c .before .before .write-line .ensures) (ap failureWords (sym (c .before .before .before .before .before .enum-told .given .1)))
 
 same-length-2 : tie.Need-same-length-2
 same-length-2 c = search needs
 
 returns-2 : tie.Need-returns-2
-returns-2 c = line-as (c .before .before .line2 .ensures) (ap failureWords (sym (c .before .before .before .before .before .enum-told2 .given .1)))
+returns-2 c = line-as (c .before .before .write-line2 .ensures) (ap failureWords (sym (c .before .before .before .before .before .enum-told2 .given .1)))
 
 same-length-3 : tie.Need-same-length-3
 same-length-3 c = search needs
 
 returns-3 : tie.Need-returns-3
-returns-3 c = line-as (c .before .before .line3 .ensures) (ap failureWords (sym (c .before .before .before .before .before .enum-told3 .given .1)))
+returns-3 c = line-as (c .before .before .write-line3 .ensures) (ap failureWords (sym (c .before .before .before .before .before .enum-told3 .given .1)))
 
 same-length-4 : tie.Need-same-length-4
 same-length-4 c = search needs
 
 returns-4 : tie.Need-returns-4
-returns-4 c = line-as (c .before .before .line4 .ensures) (ap failureWords (sym (c .before .before .before .before .before .enum-told4 .given .1)))
+returns-4 c = line-as (c .before .before .write-line4 .ensures) (ap failureWords (sym (c .before .before .before .before .before .enum-told4 .given .1)))
 
 same-length-5 : tie.Need-same-length-5
 same-length-5 c = search needs
 
 returns-5 : tie.Need-returns-5
-returns-5 c = line-as (c .before .before .line5 .ensures) (ap failureWords (sym (c .before .before .before .before .before .enum-told5 .given .1)))
+returns-5 c = line-as (c .before .before .write-line5 .ensures) (ap failureWords (sym (c .before .before .before .before .before .enum-told5 .given .1)))
 
 same-length-6 : tie.Need-same-length-6
 same-length-6 c = search needs
 
 returns-6 : tie.Need-returns-6
-returns-6 c = line-as (c .before .before .line6 .ensures) (ap failureWords (sym (c .before .before .before .before .before .enum-told6 .given .1)))
+returns-6 c = line-as (c .before .before .write-line6 .ensures) (ap failureWords (sym (c .before .before .before .before .before .enum-told6 .given .1)))
 
 same-length-7 : tie.Need-same-length-7
 same-length-7 c = search needs
 
 returns-7 : tie.Need-returns-7
-returns-7 c = line-as (c .before .before .line7 .ensures) (ap failureWords (sym (c .before .before .before .before .before .enum-told7 .given .1)))
+returns-7 c = line-as (c .before .before .write-line7 .ensures) (ap failureWords (sym (c .before .before .before .before .before .enum-told7 .given .1)))
 
 same-length-8 : tie.Need-same-length-8
 same-length-8 c = search needs
 
 returns-8 : tie.Need-returns-8
-returns-8 c = line-as (c .before .before .line8 .ensures) (ap failureWords (sym (c .before .before .before .before .before .enum-told8 .given .1)))
+returns-8 c = line-as (c .before .before .write-line8 .ensures) (ap failureWords (sym (c .before .before .before .before .before .enum-told8 .given .1)))
 
 pub failed-spec : {M : Type 1} → statement M
 failed-spec =
     tie.close
     (tie.spec
     enum-told
-    slice-aggregate-line
-    line-requires
+    slice-aggregate-write-line
+    write-line-requires
     enum-told-2
-    slice-aggregate-line-2
-    line-requires-2
+    slice-aggregate-write-line-2
+    write-line-requires-2
     enum-told-3
-    slice-aggregate-line-3
-    line-requires-3
+    slice-aggregate-write-line-3
+    write-line-requires-3
     enum-told-4
-    slice-aggregate-line-4
-    line-requires-4
+    slice-aggregate-write-line-4
+    write-line-requires-4
     enum-told-5
-    slice-aggregate-line-5
-    line-requires-5
+    slice-aggregate-write-line-5
+    write-line-requires-5
     enum-told-6
-    slice-aggregate-line-6
-    line-requires-6
+    slice-aggregate-write-line-6
+    write-line-requires-6
     enum-told-7
-    slice-aggregate-line-7
-    line-requires-7
+    slice-aggregate-write-line-7
+    write-line-requires-7
     enum-told-8
-    slice-aggregate-line-8
-    line-requires-8
+    slice-aggregate-write-line-8
+    write-line-requires-8
     same-length
     returns
     same-length-2

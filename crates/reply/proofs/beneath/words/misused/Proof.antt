@@ -10,61 +10,61 @@ use Rattle.reply.proofs.beneath.words.misused.Tie as tie
 enum-told : tie.Need-enum-told
 enum-told c = search needs
 
-slice-aggregate-line : tie.Need-slice-aggregate-line
-slice-aggregate-line c = search needs
+slice-aggregate-write-line : tie.Need-slice-aggregate-write-line
+slice-aggregate-write-line c = search needs
 
-line-requires : tie.Need-line-requires
-line-requires c κs = search needs
+write-line-requires : tie.Need-write-line-requires
+write-line-requires c κs = search needs
 
 enum-told-2 : tie.Need-enum-told-2
 enum-told-2 c = search needs
 
-slice-aggregate-line-2 : tie.Need-slice-aggregate-line-2
-slice-aggregate-line-2 c = search needs
+slice-aggregate-write-line-2 : tie.Need-slice-aggregate-write-line-2
+slice-aggregate-write-line-2 c = search needs
 
-line-requires-2 : tie.Need-line-requires-2
-line-requires-2 c κs = search needs
+write-line-requires-2 : tie.Need-write-line-requires-2
+write-line-requires-2 c κs = search needs
 
 enum-told-3 : tie.Need-enum-told-3
 enum-told-3 c = search needs
 
-slice-aggregate-line-3 : tie.Need-slice-aggregate-line-3
-slice-aggregate-line-3 c = search needs
+slice-aggregate-write-line-3 : tie.Need-slice-aggregate-write-line-3
+slice-aggregate-write-line-3 c = search needs
 
-line-requires-3 : tie.Need-line-requires-3
-line-requires-3 c κs = search needs
+write-line-requires-3 : tie.Need-write-line-requires-3
+write-line-requires-3 c κs = search needs
 
 same-length : tie.Need-same-length
 same-length c = search needs
 
 returns : tie.Need-returns
-returns c = line-as (c .before .before .line .ensures) (ap misuseWords (sym (c .before .before .before .before .before .enum-told .given .1)))
+returns c = line-as (c .before .before .write-line .ensures) (ap misuseWords (sym (c .before .before .before .before .before .enum-told .given .1)))
 
 same-length-2 : tie.Need-same-length-2
 same-length-2 c = search needs
 
 returns-2 : tie.Need-returns-2
-returns-2 c = line-as (c .before .before .line2 .ensures) (ap misuseWords (sym (c .before .before .before .before .before .enum-told2 .given .1)))
+returns-2 c = line-as (c .before .before .write-line2 .ensures) (ap misuseWords (sym (c .before .before .before .before .before .enum-told2 .given .1)))
 
 same-length-3 : tie.Need-same-length-3
 same-length-3 c = search needs
 
 returns-3 : tie.Need-returns-3
-returns-3 c = line-as (c .before .before .line3 .ensures) (ap misuseWords (sym (c .before .before .before .before .before .enum-told3 .given .1)))
+returns-3 c = line-as (c .before .before .write-line3 .ensures) (ap misuseWords (sym (c .before .before .before .before .before .enum-told3 .given .1)))
 
 pub misused-spec : {M : Type 1} → statement M
 misused-spec =
     tie.close
     (tie.spec
     enum-told
-    slice-aggregate-line
-    line-requires
+    slice-aggregate-write-line
+    write-line-requires
     enum-told-2
-    slice-aggregate-line-2
-    line-requires-2
+    slice-aggregate-write-line-2
+    write-line-requires-2
     enum-told-3
-    slice-aggregate-line-3
-    line-requires-3
+    slice-aggregate-write-line-3
+    write-line-requires-3
     same-length
     returns
     same-length-2

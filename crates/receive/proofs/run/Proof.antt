@@ -1,11 +1,11 @@
--- `receive::receive` is safe.
+-- `receive::run` is safe.
 -- Assumes nothing.
 use mathlib.Core.Path.{subst}
 use Rattle.receive.specs.Input.{InputInside}
 use Rattle.receive.specs.declared.input.Input.{Input}
 use borrow.Author.Needs.{needs}
-use Rattle.receive.proofs.receive.Statement.{statement}
-use Rattle.receive.proofs.receive.Tie as tie
+use Rattle.receive.proofs.run.Statement.{statement}
+use Rattle.receive.proofs.run.Tie as tie
 
 slice-aggregate-read-all : tie.Need-slice-aggregate-read-all
 slice-aggregate-read-all c = search needs
@@ -46,8 +46,8 @@ write-requires c κs = search needs
 returns-2 : tie.Need-returns-2
 returns-2 c = search needs
 
-pub receive-spec : {M : Type 1} → statement M
-receive-spec =
+pub run-spec : {M : Type 1} → statement M
+run-spec =
     tie.close
     (tie.spec
     slice-aggregate-read-all

@@ -1,9 +1,9 @@
--- `receive::output::attempt` is safe.
+-- `receive::output::try_number` is safe.
 -- Assumes nothing.
 use Rattle.reply.proofs.Lines.{line-counts}
 use borrow.Author.Needs.{needs}
-use Rattle.receive.proofs.output.attempt.Statement.{statement}
-use Rattle.receive.proofs.output.attempt.Tie as tie
+use Rattle.receive.proofs.output.try_number.Statement.{statement}
+use Rattle.receive.proofs.output.try_number.Tie as tie
 
 buffer-requires : tie.Need-buffer-requires
 buffer-requires c κs = search needs
@@ -47,8 +47,8 @@ fail-requires c κs = search needs
 returns-3 : tie.Need-returns-3
 returns-3 c = search needs
 
-pub attempt-spec : {M : Type 1} → statement M
-attempt-spec =
+pub try-number-spec : {M : Type 1} → statement M
+try-number-spec =
     tie.close
     (tie.spec
     buffer-requires
