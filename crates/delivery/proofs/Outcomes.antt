@@ -7,11 +7,12 @@ use native.Mathlib.Nat.{zero-add, mul-le-mul}
 use native.Mathlib.Omega.{arith}
 use lib.Arith.{digits-div, digits-mod, digits-lt}
 use lib.ListN.{length, getD, take}
-use Rattle.field.specs.Answer.{given, numberOf}
+use Rattle.field.specs.Answer.{given}
 use Rattle.field.specs.Runs.{Written}
-use Rattle.field.specs.declared.refusal.Refusal.{Refusal}
+use lib.Dec.{eqb}
+use Rattle.field.specs.Choice.{pick}
 use Rattle.field.specs.declared.refusal.Refusal.the-variants as Why
-use Rattle.field.proofs.Answers.{given-not-refused, refused-only, number-only}
+use Rattle.field.proofs.Answers.{given-not-refused, refused-only, named, read-back}
 use Rattle.field.proofs.Writing.{written-once}
 use Rattle.headers.specs.Row.{lOf}
 use Rattle.headers.specs.declared.row.Row.{Row}
@@ -38,35 +39,27 @@ use Rattle.delivery.proofs.Screening.{sound}
 
 -- ---- one verdict, or one reason
 
-small : (w : Refusal) → numberOf w ≤ 10
-small Why.DivisorZero = omega arith
-small Why.OutOfRange = omega arith
-small Why.BadTransmission = omega arith
-small Why.BadRow = omega arith
-small Why.BadTables = omega arith
-small Why.Outside = omega arith
-small Why.SamePlace = omega arith
-small Why.WrongLength = omega arith
-small Why.BadCount = omega arith
-small Why.BadSize = omega arith
+-- the reason of a number
+abbrev stopped : ℕ → Stop
+stopped n = pick (eqb n 101) Stops.TooLarge (pick (eqb n 102) Stops.SeveralBlocks (pick (eqb n 103) Stops.OtherBlock (Stops.Refused (named n))))
+
+stop-back : (a : Stop) → stopped (stopOf a) ≡ a
+stop-back (Stops.Refused Why.DivisorZero) = refl
+stop-back (Stops.Refused Why.OutOfRange) = refl
+stop-back (Stops.Refused Why.BadTransmission) = refl
+stop-back (Stops.Refused Why.BadRow) = refl
+stop-back (Stops.Refused Why.BadTables) = refl
+stop-back (Stops.Refused Why.Outside) = refl
+stop-back (Stops.Refused Why.SamePlace) = refl
+stop-back (Stops.Refused Why.WrongLength) = refl
+stop-back (Stops.Refused Why.BadCount) = refl
+stop-back (Stops.Refused Why.BadSize) = refl
+stop-back Stops.TooLarge = refl
+stop-back Stops.SeveralBlocks = refl
+stop-back Stops.OtherBlock = refl
 
 pub stop-only : (a b : Stop) → stopOf a ≡ stopOf b → a ≡ b
-stop-only (Stops.Refused v) (Stops.Refused w) e = ap Stops.Refused (number-only v w e)
-stop-only (Stops.Refused v) Stops.TooLarge e = absurd (omega (arith, small v))
-stop-only (Stops.Refused v) Stops.SeveralBlocks e = absurd (omega (arith, small v))
-stop-only (Stops.Refused v) Stops.OtherBlock e = absurd (omega (arith, small v))
-stop-only Stops.TooLarge (Stops.Refused w) e = absurd (omega (arith, small w))
-stop-only Stops.TooLarge Stops.TooLarge e = refl
-stop-only Stops.TooLarge Stops.SeveralBlocks e = absurd (omega arith)
-stop-only Stops.TooLarge Stops.OtherBlock e = absurd (omega arith)
-stop-only Stops.SeveralBlocks (Stops.Refused w) e = absurd (omega (arith, small w))
-stop-only Stops.SeveralBlocks Stops.TooLarge e = absurd (omega arith)
-stop-only Stops.SeveralBlocks Stops.SeveralBlocks e = refl
-stop-only Stops.SeveralBlocks Stops.OtherBlock e = absurd (omega arith)
-stop-only Stops.OtherBlock (Stops.Refused w) e = absurd (omega (arith, small w))
-stop-only Stops.OtherBlock Stops.TooLarge e = absurd (omega arith)
-stop-only Stops.OtherBlock Stops.SeveralBlocks e = absurd (omega arith)
-stop-only Stops.OtherBlock Stops.OtherBlock e = refl
+stop-only = read-back stopOf stopped stop-back
 
 -- two sets that are solved are one, so the block of the one is that of the other
 module _ {r : Row} {v : List ℕ} {k t : ℕ} {S : System ℕ} {xs ys us vs : List ℕ} (a : Concluded r v k t S xs ys Solved) (b : Concluded r v k t S us vs Solved) where

@@ -1,11 +1,11 @@
 -- Each public function of `symbol_slab` is settled by its contract: two results that it allows, answers and memory, are the same.
 -- Assumes nothing.
-use mathlib.Core.Path.{_≡_, sym, ap, _∙_}
+use mathlib.Core.Path.{_≡_, refl, sym, ap, _∙_}
 use mathlib.Core.List.{List}
 use Prim.Native.Nat.{ℕ, _*_}
-use Rattle.field.specs.Answer.{numberOf, done}
+use Rattle.field.specs.Answer.{done}
 use Rattle.field.specs.Runs.{added, fused, scaled}
-use Rattle.field.proofs.Answers.{given-only, given-not-refused, refused-only, number-only}
+use Rattle.field.proofs.Answers.{named-number, answerOf, answer-only}
 use Rattle.field.proofs.Refusals.{Settled, settled-written, done-only}
 use Rattle.slab.specs.Slab.{slabOutcome, rangeOutcome, rangeOf, start, symbol, Zeroed, SymbolsAdded, SymbolScaled, SymbolsFused}
 use Rattle.slab.specs.declared.symbol_slab.SymbolSlab.{SymbolSlab}
@@ -14,19 +14,19 @@ use Rattle.slab.specs.declared.symbol_slab.Made.the-variants as Mades
 use Rattle.slab.specs.declared.symbol_slab.Range.{Range}
 use Rattle.slab.specs.declared.symbol_slab.Range.the-variants as Ranges
 
+slab-back : (a : Made) → answerOf Mades.Slab Mades.Refused (slabOutcome a) ≡ a
+slab-back (Mades.Slab s) = refl
+slab-back (Mades.Refused w) = ap Mades.Refused (named-number w)
+
 pub slab-only : (a b : Made) → slabOutcome a ≡ slabOutcome b → a ≡ b
-slab-only (Mades.Slab s) (Mades.Slab u) e = ap Mades.Slab (given-only s u e)
-slab-only (Mades.Slab s) (Mades.Refused w) e = absurd (given-not-refused s (numberOf w) e)
-slab-only (Mades.Refused v) (Mades.Slab u) e = absurd (given-not-refused u (numberOf v) (sym e))
-slab-only (Mades.Refused v) (Mades.Refused w) e = ap Mades.Refused (number-only v w (refused-only (numberOf v) (numberOf w) e))
+slab-only = answer-only slabOutcome Mades.Slab Mades.Refused slab-back
+
+range-back : (a : Range) → answerOf (λ x. Ranges.Bytes (x .0) (x .1)) Ranges.Refused (rangeOutcome a) ≡ a
+range-back (Ranges.Bytes s t) = refl
+range-back (Ranges.Refused w) = ap Ranges.Refused (named-number w)
 
 pub range-only : (a b : Range) → rangeOutcome a ≡ rangeOutcome b → a ≡ b
-range-only (Ranges.Bytes s t) (Ranges.Bytes u v) e =
-    let q = given-only (s, t) (u, v) e in
-    ap (λ (r : ℕ × ℕ). Ranges.Bytes (r .0) (r .1)) q
-range-only (Ranges.Bytes s t) (Ranges.Refused w) e = absurd (given-not-refused (s, t) (numberOf w) e)
-range-only (Ranges.Refused v) (Ranges.Bytes s t) e = absurd (given-not-refused (s, t) (numberOf v) (sym e))
-range-only (Ranges.Refused v) (Ranges.Refused w) e = ap Ranges.Refused (number-only v w (refused-only (numberOf v) (numberOf w) e))
+range-only = answer-only rangeOutcome (λ x. Ranges.Bytes (x .0) (x .1)) Ranges.Refused range-back
 
 pub with-zeros-once : (xs : List ℕ) (count size : ℕ) → Settled (Zeroed xs count size)
 with-zeros-once xs count size = settled-written slabOutcome slab-only _ xs (λ k. 0) 0 (count * size)
