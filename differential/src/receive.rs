@@ -174,12 +174,13 @@ fn hindered(report: &mut Report, program: &Program, d: &[u8]) {
     let piped = || [Stdio::piped(), Stdio::piped()];
     let folder = || [File::open(&program.folder).expect("it is laid").into(), Stdio::piped()];
     let full = || [Stdio::piped(), File::create("/dev/full").expect("Linux has it").into()];
-    let long = "x".repeat(4001);
+    let (long, longer) = ("x".repeat(250), "x".repeat(4001));
     let one = "more than one argument: it is receive, or receive OUT, with the delivery on standard input";
-    let runs: [(&[&str], [Stdio; 2], &str); 9] = [
+    let runs: [(&[&str], [Stdio; 2], &str); 10] = [
         (&[OUT, OUT], piped(), one),
         (&[""], piped(), "the name of OUT is empty"),
-        (&[&long], piped(), "the name of OUT has more than 4,000 bytes"),
+        (&[&longer], piped(), "the name of OUT has more than 4,000 bytes"),
+        (&[&long], piped(), "no file can be made beside OUT: File name too long"),
         (&[], folder(), "standard input cannot be read: Is a directory"),
         (&[OUT], folder(), "standard input cannot be read: Is a directory"),
         (&[], full(), "standard output cannot be written: No space left on device"),
@@ -194,6 +195,15 @@ fn hindered(report: &mut Report, program: &Program, d: &[u8]) {
     }
 }
 
+/// A link at OUT is replaced, and not what it leads to.
+fn linked(report: &mut Report, program: &Program, d: &[u8], object: &[u8]) {
+    let left: Files = older().into_iter().map(|(name, bytes)| (name + ".old", bytes)).collect();
+    let mut before = left.clone();
+    before.insert("catalogue@".into(), b"catalogue.old".to_vec());
+    let due = seen(&Ok(object.to_vec()), Some(OUT), &left);
+    report.of("to a file", program.run(&[OUT], [Stdio::piped(), Stdio::piped()], &before, d) == due, || "a link at OUT".into());
+}
+
 pub fn run(count: u64, seed: u64) -> Found {
     let mut report = Report::new("receive", seed);
     let mut random = Random::new(seed);
@@ -203,6 +213,7 @@ pub fn run(count: u64, seed: u64) -> Found {
     let d = delivery(&mut random, line, 7, 14);
     assert_eq!(expected(&d), ("blocks", Ok(line.to_vec())), "the harness solves it");
     tried(&mut report, &program, &d, seed, 0);
+    linked(&mut report, &program, &d, line);
     hindered(&mut report, &program, &d);
     for number in 1..=count / 200 {
         let mut d = sound(&mut random);

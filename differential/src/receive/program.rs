@@ -1,12 +1,15 @@
 //! The receiving program as a process: what a run writes to its two streams, and what it leaves in its folder.
 use std::collections::BTreeMap;
+use std::ffi::OsStr;
 use std::fmt::Display;
 use std::io::Write;
+use std::os::unix::ffi::{OsStrExt, OsStringExt};
+use std::os::unix::fs::symlink;
 use std::path::{Path, PathBuf};
 use std::process::{Command, Output, Stdio};
 use std::{env, fs, process, thread};
 
-/// The files of a folder and their bytes; a folder has a slash behind its name, and no bytes.
+/// The files of a folder and their bytes. A folder has a slash behind its name and no bytes; a link an at sign, and the path that it leads to.
 pub type Files = BTreeMap<String, Vec<u8>>;
 
 /// All that can be seen of a run.
@@ -76,9 +79,10 @@ impl Program {
     fn lay(&self, files: &Files) {
         let _ = fs::remove_dir_all(&self.folder);
         let made = fs::create_dir_all(&self.folder).and_then(|()| {
-            files.iter().try_for_each(|(name, bytes)| match name.strip_suffix('/') {
-                Some(folder) => fs::create_dir(self.folder.join(folder)),
-                None => fs::write(self.folder.join(name), bytes),
+            files.iter().try_for_each(|(name, bytes)| match (name.strip_suffix('/'), name.strip_suffix('@')) {
+                (Some(folder), _) => fs::create_dir(self.folder.join(folder)),
+                (_, Some(link)) => symlink(OsStr::from_bytes(bytes), self.folder.join(link)),
+                _ => fs::write(self.folder.join(name), bytes),
             })
         });
         made.unwrap_or_else(|e| self.cannot(format!("{}: {e}", self.folder.display())));
@@ -88,8 +92,11 @@ impl Program {
         let found = fs::read_dir(&self.folder).unwrap_or_else(|e| self.cannot(format!("{}: {e}", self.folder.display())));
         let named = found.flatten().map(|entry| {
             let name = entry.file_name().to_string_lossy().into_owned();
-            let bytes = fs::read(entry.path());
-            if entry.path().is_dir() { (name + "/", vec![]) } else { (name, bytes.unwrap_or_default()) }
+            match entry.file_type() {
+                Ok(kind) if kind.is_dir() => (name + "/", vec![]),
+                Ok(kind) if kind.is_symlink() => (name + "@", fs::read_link(entry.path()).unwrap_or_default().into_os_string().into_vec()),
+                _ => (name, fs::read(entry.path()).unwrap_or_default()),
+            }
         });
         named.collect()
     }
