@@ -16,6 +16,8 @@ pub mod Bytes
 pub mod AnswersBytes
 pub mod Growth
 pub mod Rows
+pub mod Behind
 pub mod Keeping
 pub mod Elimination
+pub mod Back
 pub mod Finish

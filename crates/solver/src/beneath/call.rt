@@ -6,7 +6,7 @@ ghost use Rattle.headers.specs.Row.{lOf};
 ghost use Rattle.elimination.specs.Verdict.{Means};
 ghost use Rattle.solver.specs.System.{Admits, equations, systemOf};
 use crate::beneath::filling;
-use elimination::beneath::finish;
+use elimination::beneath::solving;
 use elimination::verdict::Verdict;
 use headers::row::Row;
 
@@ -30,5 +30,5 @@ pub fn run(
     let m = (r.s + r.h + (r.kp - k)) as usize + esis.len();
     let l = (r.kp + r.s + r.h) as usize;
     filling::fill(rows, values, tables, esis, symbols, k, n, r);
-    finish::solve_stored(rows, values, out, m, l, n)
+    solving::solve_stored(rows, values, out, m, l, n)
 }
