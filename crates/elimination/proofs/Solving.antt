@@ -8,6 +8,7 @@ use native.Mathlib.Nat.{mul-le-mul-right}
 use native.Mathlib.Omega.{arith}
 use native.Mathlib.Decide.{ℕ-discrete}
 use lib.ListN.{length, getD}
+use Rattle.field.specs.Runs.{Written}
 use Rattle.linear.specs.System.{System, SameEquation}
 use Rattle.linear.specs.Octets.{octets}
 use Rattle.linear.specs.Bytes.{Bytes, cell, storedSystem, OctetSymbols, FitsBytes, ContradictionBytes, ShortfallBytes}
@@ -22,10 +23,9 @@ use Rattle.linear.proofs.Bytes.{fits-of-bytes, bytes-of-fits}
 use Rattle.linear.proofs.Growth.{contradiction-remains}
 use Rattle.elimination.specs.Steps.{StoresRoom, Pivots, column}
 use Rattle.elimination.specs.Taking.{Lent, RoomForOne, PutIn, Still, Joins, Followed, Denied}
-use Rattle.elimination.specs.Solving.{Under, Gone, Due, Ended}
-use Rattle.elimination.specs.Verdict.{Means}
-use Rattle.elimination.specs.declared.beneath.solving.Progress.{Progress}
-use Rattle.elimination.specs.declared.beneath.solving.Progress.the-variants as Progresses
+use Rattle.elimination.specs.Settling.{Settles}
+use Rattle.elimination.specs.Solving.{Under, HeldVerdict}
+use Rattle.elimination.specs.Verdict.{Means, Answered}
 use Rattle.elimination.specs.declared.verdict.Verdict.{Verdict}
 use Rattle.elimination.specs.declared.verdict.Verdict.the-variants.{Solved, Contradiction, Open}
 
@@ -121,20 +121,25 @@ still-only n m s = rw (s .rows, s .symbols) (only-refl, only-refl)
 pub gone-more : (L T : ℕ) {i m : ℕ} (a₀ d₀ : List ℕ) → i ≤ m → ContradictionBytes L T (storedSystem i L T a₀ d₀) → ContradictionBytes L T (storedSystem m L T a₀ d₀)
 gone-more L T a₀ d₀ l c = contradiction-remains (λ k h. (k, omega arith, record { coefs = λ c l. refl; bytes = λ t l. refl })) c
 
-pub due : (L T M : ℕ) (ps a₀ d₀ a d : List ℕ) (p : Progress) → StoresRoom M L T a d → Pivots L ps → Gone L T M ps a₀ d₀ a d p → Due L T ps a d p
-due L T M ps a₀ d₀ a d (Progresses.Held r) room places u = lent-held ps (u .enough) room places (u .stands)
-due L T M ps a₀ d₀ a d Progresses.Clash room places u = tt
+-- what no set fits stays so for every system that the stores held
+pub answered-clash : {M L T : ℕ} (a d o : List ℕ) {a₁ d₁ : List ℕ} → Bytes d → ContradictionBytes L T (storedSystem M L T a d) → Written (λ _. 0) a a₁ 0 (M * L)
+    → Written (λ _. 0) d d₁ 0 (M * T) → Answered M L T a d o a₁ d₁ o Contradiction
+answered-clash {M} {L} {T} a d o bd u wa wd = record {
+  answer = λ S small first. (record { none = λ C b f. u .none C b (fits S first C f) }, refl);
+  rows = wa;
+  symbols = wd;
+}
+  where
+    fits : (S : System ℕ) → Holds M L T S a d → (C : List ℕ) → FitsBytes L T S C → FitsBytes L T (storedSystem M L T a d) C
+    fits S first C f = bytes-of-fits L T (storedSystem M L T a d) (record { below = λ i l t q. bd _ }) C (fits-follows octets L T (first .to) (fits-of-bytes L T S f))
 
-module _ (L T M : ℕ) {S : System ℕ} (ps a₀ d₀ a d o o₁ : List ℕ) (pos : 0 < T) (bd : Bytes d₀) (small : OctetSymbols T S) (first : Holds M L T S a₀ d₀) where
-  pub right : (p : Progress) (v : Verdict) → Gone L T M ps a₀ d₀ a d p → Ended L T ps a d o o₁ p v → Means L T S o o₁ v
-  right (Progresses.Held r) Solved u (full, e) = (e .solved full pos (u .stands) S small (holds-trans first (u .holds)), e .past)
-  right (Progresses.Held r) Contradiction u e = absurd e
-  right (Progresses.Held r) (Open s) u (short, is, same) =
-      let h : Holds r L T S a d = holds-trans first (u .holds) in
-      (stepped-open (u .stands) h small pos short, subst (ShortfallBytes L T S) (sym is) (stepped-shortfall (u .stands) h), same)
-  right Progresses.Clash Solved u e = absurd e
-  right Progresses.Clash Contradiction u e = (record { none = λ C b f. u .none C b (fits C f) }, e)
-    where
-      fits : (C : List ℕ) → FitsBytes L T S C → FitsBytes L T (storedSystem M L T a₀ d₀) C
-      fits C f = bytes-of-fits L T (storedSystem M L T a₀ d₀) (record { below = λ i l t q. bd _ }) C (fits-follows octets L T (first .to) (fits-of-bytes L T S f))
-  right Progresses.Clash (Open s) u e = absurd e
+-- what r held equations come to, in the stores a₂ and d₂
+pub answered-held : {M L T r : ℕ} (ps a d o a₂ d₂ : List ℕ) {a₁ d₁ o₁ : List ℕ} (v : Verdict) → 0 < T → Under L T M r ps a d a₂ d₂
+    → Settles L T r ps a₂ d₂ o o₁ → HeldVerdict L r v → Written (λ _. 0) a a₁ 0 (M * L) → Written (λ _. 0) d d₁ 0 (M * T) → Answered M L T a d o a₁ d₁ o₁ v
+answered-held {M} {L} {T} {r} ps a d o a₂ d₂ {o₁ = o₁} v pos u e h wa wd = record { answer = λ S small first. means S small (holds-trans first (u .holds)) v h; rows = wa; symbols = wd }
+  where
+    means : (S : System ℕ) → OctetSymbols T S → Holds r L T S a₂ d₂ → (w : Verdict) → HeldVerdict L r w → Means L T S o o₁ w
+    means S small holds Solved full = (e .solved full pos (u .stands) S small holds, e .past)
+    means S small holds Contradiction q = absurd q
+    means S small holds (Open s) (short, is) =
+        (stepped-open (u .stands) holds small pos short, subst (ShortfallBytes L T S) (sym is) (stepped-shortfall (u .stands) holds), e .short short)

@@ -11,8 +11,6 @@ use Rattle.elimination.specs.declared.beneath.solving.Progress.{Progress
 use Rattle.elimination.specs.declared.beneath.solving.Progress.the-variants as Progresses
 use Rattle.elimination.specs.declared.verdict.Verdict.{Verdict}
 use Rattle.elimination.specs.declared.verdict.Verdict.the-variants.{Solved, Contradiction, Open}
-use Rattle.elimination.specs.Taking.{Lent}
-use Rattle.elimination.specs.Settling.{Settles}
 
 -- the r held equations say what the first i of those in a₀, d₀ say, and from the i-th on these stand as they did
 pub record Under (L T i r : ℕ) (ps a₀ d₀ a d : List ℕ) : Type 0 where
@@ -27,16 +25,8 @@ abbrev pub Gone : (L T i : ℕ) (ps a₀ d₀ a d : List ℕ) → Progress → T
 Gone L T i ps a₀ d₀ a d (Progresses.Held r) = Under L T i r ps a₀ d₀ a d
 Gone L T i ps a₀ d₀ a d Progresses.Clash = ContradictionBytes L T (storedSystem i L T a₀ d₀)
 
--- the held rows can be read
-abbrev pub Due : (L T : ℕ) (ps a d : List ℕ) → Progress → Type 0
-Due L T ps a d (Progresses.Held r) = Lent L T r ps a d
-Due L T ps a d Progresses.Clash = Unit {0}
-
--- what is made of it
-abbrev pub Ended : (L T : ℕ) (ps a d o o₁ : List ℕ) → Progress → Verdict → Type 0
-Ended L T ps a d o o₁ (Progresses.Held r) Solved = (L ≤ r) × Settles L T r ps a d o o₁
-Ended L T ps a d o o₁ (Progresses.Held r) Contradiction = ⊥
-Ended L T ps a d o o₁ (Progresses.Held r) (Open s) = (r < L) × (s ≡ L - r) × (o₁ ≡ o)
-Ended L T ps a d o o₁ Progresses.Clash Solved = ⊥
-Ended L T ps a d o o₁ Progresses.Clash Contradiction = o₁ ≡ o
-Ended L T ps a d o o₁ Progresses.Clash (Open s) = ⊥
+-- r equations are held, in L symbols: all are settled, or so many are not
+abbrev pub HeldVerdict : (L r : ℕ) → Verdict → Type 0
+HeldVerdict L r Solved = L ≤ r
+HeldVerdict L r Contradiction = ⊥
+HeldVerdict L r (Open s) = (r < L) × (s ≡ L - r)

@@ -1,13 +1,15 @@
 // All equations of two stores, one after the other, and the symbols where they settle them. The order in which they stand decides the speed, and not
 // the answer.
 ghost use mathlib.Core.List.{List};
+ghost use mathlib.Core.Path.{_≡_};
 ghost use Prim.Native.Nat.{ℕ, _+_, _*_, _≤_, _<_};
 ghost use lib.ListN.{length};
+ghost use Rattle.field.specs.Runs.{Written};
 ghost use Rattle.linear.specs.Rows.{OnlyBelow};
 ghost use Rattle.linear.specs.Elimination.{Stepped};
 ghost use Rattle.elimination.specs.Steps.{Pivots, StoresRoom, column};
 ghost use Rattle.elimination.specs.Taking.{Wide};
-ghost use Rattle.elimination.specs.Solving.{Due, Ended, Gone, Under};
+ghost use Rattle.elimination.specs.Solving.{HeldVerdict, Gone, Under};
 ghost use Rattle.elimination.specs.Verdict.{Answered};
 use crate::beneath::rows;
 use crate::beneath::settling;
@@ -77,46 +79,22 @@ fn forward(
     Progress::Held(r)
 }
 
-// What it comes to.
-fn finish(
-    p: Progress,
-    rows: &[u8],
-    values: &[u8],
-    pivots: &[u16],
-    l: usize,
-    t: usize,
-    out: &mut [u8],
-) -> Verdict
-    requires { ⌜ Due l t (now pivots) (now rows) (now values) p × (l * t ≤ length (now out)) × (l ≤ 65535) ⌝ }
-    ensures { λ v. ⌜ Ended l t (now (pivots .entry)) (now (rows .entry)) (now (values .entry)) (now (out .entry)) (now (out .exit)) p v ⌝ }
-{
-    let Progress::Held(r) = p else {
-        return Verdict::Contradiction;
-    };
-    settling::settle(rows, values, pivots, l, t, r, out);
-    if l <= r {
-        return Verdict::Solved;
-    }
-    Verdict::Open((l - r) as u32)
-}
-
-// The work of `solve_stored`, with lent room for the pivots and for an equation.
-fn run(
+// The same in buffers that may be longer than a row and a symbol.
+fn forward_in(
     rows: &mut [u8],
     values: &mut [u8],
-    out: &mut [u8],
+    pivots: &mut [u16],
     m: usize,
     l: usize,
     t: usize,
-    pivots: &mut [u16],
     row: &mut [u8],
     symbol: &mut [u8],
-) -> Verdict
-    requires { ⌜ StoresRoom m l t (now rows) (now values) × (l * t ≤ length (now out)) × (0 < t) ⌝ }
-    requires { ⌜ Pivots l (now pivots) × (l ≤ length (now row)) × (t ≤ length (now symbol)) ⌝ }
-    ensures { λ v. ⌜ Answered m l t (now (rows .entry)) (now (values .entry)) (now (out .entry)) (now (rows .exit)) (now (values .exit)) (now (out .exit)) v ⌝ }
+) -> Progress
+    requires { ⌜ StoresRoom m l t (now rows) (now values) × Pivots l (now pivots) × (l ≤ length (now row)) × (t ≤ length (now symbol)) ⌝ }
+    ensures { λ _. ⌜ OnlyBelow (m * l) (now (rows .entry)) (now (rows .exit)) × OnlyBelow (m * t) (now (values .entry)) (now (values .exit)) ⌝ }
+    ensures { λ p. ⌜ Gone l t m (now (pivots .exit)) (now (rows .entry)) (now (values .entry)) (now (rows .exit)) (now (values .exit)) p ⌝ }
 {
-    let p = forward(
+    forward(
         rows,
         values,
         pivots,
@@ -125,13 +103,33 @@ fn run(
         t,
         &mut row[..l],
         &mut symbol[..t],
-    );
-    let v = finish(p, rows, values, pivots, l, t, out);
+    )
+}
+
+// What r held equations in l symbols come to.
+fn counted(l: usize, r: usize) -> Verdict
+    requires { ⌜ l ≤ 65535 ⌝ }
+    ensures { λ v. ⌜ HeldVerdict l r v ⌝ }
+{
+    if l <= r {
+        return Verdict::Solved;
+    }
+    Verdict::Open((l - r) as u32)
+}
+
+// The used parts of both stores are made 0, and the verdict is handed on.
+fn emptied(rows: &mut [u8], values: &mut [u8], m: usize, l: usize, t: usize, v: Verdict) -> Verdict
+    requires { ⌜ StoresRoom m l t (now rows) (now values) ⌝ }
+    ensures { λ _. ⌜ Written (λ _. 0) (now (rows .entry)) (now (rows .exit)) 0 (m * l) ⌝ }
+    ensures { λ _. ⌜ Written (λ _. 0) (now (values .entry)) (now (values .exit)) 0 (m * t) ⌝ }
+    ensures { λ w. ⌜ w ≡ v ⌝ }
+{
     runs::clear(rows, 0, m * l);
     runs::clear(values, 0, m * t);
     v
 }
 
+// The frame of a small block: it takes 8 KiB.
 fn small(
     rows: &mut [u8],
     values: &mut [u8],
@@ -146,19 +144,16 @@ fn small(
     let mut pivots = [0u16; 2048];
     let mut row = [0u8; 2048];
     let mut symbol = [0u8; 2048];
-    run(
-        rows,
-        values,
-        out,
-        m,
-        l,
-        t,
-        &mut pivots,
-        &mut row,
-        &mut symbol,
-    )
+    let p = forward_in(rows, values, &mut pivots, m, l, t, &mut row, &mut symbol);
+    let Progress::Held(r) = p else {
+        return emptied(rows, values, m, l, t, Verdict::Contradiction);
+    };
+    settling::settle(rows, values, &pivots, l, t, r, out);
+    emptied(rows, values, m, l, t, counted(l, r))
 }
 
+// The frame of any other: 256 KiB. It is called at two places and does the work itself, since what is called once, or is short, becomes a part of its
+// caller, and its frame with it.
 fn large(
     rows: &mut [u8],
     values: &mut [u8],
@@ -173,21 +168,15 @@ fn large(
     let mut pivots = [0u16; 65535];
     let mut row = [0u8; 65535];
     let mut symbol = [0u8; 65535];
-    run(
-        rows,
-        values,
-        out,
-        m,
-        l,
-        t,
-        &mut pivots,
-        &mut row,
-        &mut symbol,
-    )
+    let p = forward_in(rows, values, &mut pivots, m, l, t, &mut row, &mut symbol);
+    let Progress::Held(r) = p else {
+        return emptied(rows, values, m, l, t, Verdict::Contradiction);
+    };
+    settling::settle(rows, values, &pivots, l, t, r, out);
+    emptied(rows, values, m, l, t, counted(l, r))
 }
 
-// Solves the m equations in l symbols of t octets that the two stores hold. Their used parts are 0 afterwards. An array has a fixed size, and most
-// blocks are small: a frame for these takes 8 KiB, and one for all 256.
+// Solves the m equations in l symbols of t octets that the two stores hold. Their used parts are 0 afterwards.
 pub fn solve_stored(
     rows: &mut [u8],
     values: &mut [u8],
