@@ -15,6 +15,7 @@ pub mod Octets
 pub mod Bytes
 pub mod AnswersBytes
 pub mod Growth
+pub mod Joined
 pub mod Rows
 pub mod Behind
 pub mod Keeping
