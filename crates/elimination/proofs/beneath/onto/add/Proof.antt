@@ -2,6 +2,7 @@
 -- Assumes nothing.
 use native.Mathlib.Omega.{arith}
 use borrow.Author.Needs.{needs}
+use Rattle.linear.specs.Bytes.{Bytes}
 use Rattle.elimination.proofs.Buffers.{added-once, fused-once}
 use Rattle.elimination.proofs.beneath.onto.add.Statement.{statement}
 use Rattle.elimination.proofs.beneath.onto.add.Tie as tie
@@ -13,7 +14,10 @@ same-length : tie.Need-same-length
 same-length c = search needs
 
 returns : tie.Need-returns
-returns c = added-once (c .before .before .before .before .before .before .before .args .src .now) (c .before .before .before .before .before .before .before .args .f) (c .before .before .before .before .if1 .taken) (λ x. omega (arith, c .before .before .before .before .before .shared-slice-known .given x)) (c .before .before .before .before .before .before .before .pre) (c .before .before .add .ensures)
+returns c =
+    let s = c .before .before .before .before .before .before .before in
+    let bytes : Bytes (s .args .src .now) = λ x. omega (arith, c .before .before .before .before .before .shared-slice-known .given x) in
+    added-once (s .args .src .now) (s .args .f) (c .before .before .before .before .if1 .taken) bytes (s .pre) (c .before .before .add .ensures)
 
 fma-requires : tie.Need-fma-requires
 fma-requires c κs = search needs
@@ -22,7 +26,9 @@ same-length-2 : tie.Need-same-length-2
 same-length-2 c = search needs
 
 returns-2 : tie.Need-returns-2
-returns-2 c = fused-once (c .before .before .before .before .before .before .before .args .src .now) (c .before .before .before .before .before .before .before .args .f) (c .before .before .before .before .before .before .before .pre) (c .before .before .fma .ensures)
+returns-2 c =
+    let s = c .before .before .before .before .before .before .before in
+    fused-once (s .args .src .now) (s .args .f) (s .pre) (c .before .before .fma .ensures)
 
 pub add-spec : {M : Type 1} → statement M
 add-spec =

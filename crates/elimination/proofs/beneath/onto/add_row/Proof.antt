@@ -27,7 +27,9 @@ same-length : tie.Need-same-length
 same-length c = search needs
 
 returns : tie.Need-returns
-returns c = onto-part (c .before .before .before .before .before .before .before .args .w) (c .before .before .before .before .before .before .before .args .k) (c .before .before .before .before .before .before .before .args .f) (c .before .before .before .before .before .before .before .args .store .now) (c .before .before .before .before .before .before .before .pre .0) (c .before .before .add .ensures)
+returns c =
+    let s = c .before .before .before .before .before .before .before in
+    onto-part (s .args .w) (s .args .k) (s .args .f) (s .args .store .now) (s .pre .0) (c .before .before .add .ensures)
 
 pub add-row-spec : {M : Type 1} → statement M
 add-row-spec =

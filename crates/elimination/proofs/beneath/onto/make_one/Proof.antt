@@ -28,7 +28,9 @@ same-length-2 : tie.Need-same-length-2
 same-length-2 c = search needs
 
 returns-2 : tie.Need-returns-2
-returns-2 c = (times-by (c .before .before .before .before .before .before .before .before .inverse .ensures) (c .before .before .before .before .before .before .scale .ensures), times-by (c .before .before .before .before .before .before .before .before .inverse .ensures) (c .before .before .scale2 .ensures))
+returns-2 c =
+    let x = c .before .before .before .before .before .before .before .before .inverse .ensures in
+    (times-by x (c .before .before .before .before .before .before .scale .ensures), times-by x (c .before .before .scale2 .ensures))
 
 pub make-one-spec : {M : Type 1} → statement M
 make-one-spec =

@@ -17,16 +17,19 @@ copy-row-requires-2 c κs = search needs
 take-requires : tie.Need-take-requires
 take-requires c κs =
     let s = c .before .before .before .before .before .before .before .before .before .before .before .before .before .before .before .before .before .before .before .before in
-    let st = s .pre .1 in (
-      (lent-held _ (omega (arith, s .pre .0 .3)) (s .pre .0 .0) (s .pre .0 .1) st, record { row = c .before .before .before .before .before .before .before .before .before .before .before .before .copy-row .ensures .size ∙ s .pre .0 .2 .row; symbol = c .before .before .before .before .before .before .before .copy-row2 .ensures .size ∙ s .pre .0 .2 .symbol }),
-      (rank-at-most st, s .pre .0 .1 .small, λ h. place-next (s .pre .0 .3) (s .pre .0 .0) (s .pre .0 .1) h),
+    let row = c .before .before .before .before .before .before .before .before .before .before .before .before .copy-row .ensures .size ∙ s .pre .0 .2 .row in
+    let symbol = c .before .before .before .before .before .before .before .copy-row2 .ensures .size ∙ s .pre .0 .2 .symbol in (
+      (lent-held _ (omega (arith, s .pre .0 .3)) (s .pre .0 .0) (s .pre .0 .1) (s .pre .1), record { row = row; symbol = symbol }),
+      (rank-at-most (s .pre .1), s .pre .0 .1 .small, λ h. place-next (s .pre .0 .3) (s .pre .0 .0) (s .pre .0 .1) h),
     )
 
 enum-told : tie.Need-enum-told
 enum-told c = search needs
 
 add-t31 : tie.Need-add-t31
-add-t31 c = let s = c .before .before .before .before .before .before .before .before .before .before .before .before .before .before .before .before .before .before .before .before .before .before .before .before .before .before .before .before .before .before .before .before .before in omega (arith, rank-at-most (s .pre .1), s .pre .0 .1 .small)
+add-t31 c =
+    let s = c .before .before .before .before .before .before .before .before .before .before .before .before .before .before .before .before .before .before .before .before .before .before .before .before .before .before .before .before .before .before .before .before .before in
+    omega (arith, rank-at-most (s .pre .1), s .pre .0 .1 .small)
 
 enum-told-2 : tie.Need-enum-told-2
 enum-told-2 c = search needs
@@ -53,7 +56,10 @@ returns : tie.Need-returns
 returns c =
     let s = c .before .before .before .before .before .before .before .before .before .before .before .before .before .before .before .before .before .before .before .before .before .before .before .before .before .before .before .before .before .before .before .before .before in
     let m = rw (c .enum-told .given .1) at (c .before .before .before .before .before .before .before .before .before .before .before .before .take .ensures) in
-    (put-only (s .args .i) (s .pre .0 .3) (m .1), λ a₀ d₀ u. gone-held _ _ u (c .before .before .before .before .before .before .before .before .before .before .before .before .before .before .before .before .before .before .before .before .before .before .before .before .before .copy-row .ensures) (c .before .before .before .before .before .before .before .before .before .before .before .before .before .before .before .before .before .before .before .before .copy-row2 .ensures) (lent-held _ (omega (arith, s .pre .0 .3)) (s .pre .0 .0) (s .pre .0 .1) (s .pre .1)) (m .1) (m .2 (s .pre .1)))
+    let x = c .before .before .before .before .before .before .before .before .before .before .before .before .before .before .before .before .before .before .before .before .before .before .before .before .before .copy-row .ensures in
+    let y = c .before .before .before .before .before .before .before .before .before .before .before .before .before .before .before .before .before .before .before .before .copy-row2 .ensures in
+    let lent = lent-held _ (omega (arith, s .pre .0 .3)) (s .pre .0 .0) (s .pre .0 .1) (s .pre .1) in
+    (put-only (s .args .i) (s .pre .0 .3) (m .1), λ a₀ d₀ u. gone-held _ _ u x y lent (m .1) (m .2 (s .pre .1)))
 
 same-length-6 : tie.Need-same-length-6
 same-length-6 c = search needs
@@ -74,7 +80,10 @@ returns-2 : tie.Need-returns-2
 returns-2 c =
     let s = c .before .before .before .before .before .before .before .before .before .before .before .before .before .before .before .before .before .before .before .before .before .before .before .before .before .before .before .before .before .before .before .before .before in
     let m = rw (c .enum-told2 .given .1) at (c .before .before .before .before .before .before .before .before .before .before .before .before .take .ensures) in
-    (still-only _ _ (m .0), λ a₀ d₀ u. gone-still _ _ u (c .before .before .before .before .before .before .before .before .before .before .before .before .before .before .before .before .before .before .before .before .before .before .before .before .before .copy-row .ensures) (c .before .before .before .before .before .before .before .before .before .before .before .before .before .before .before .before .before .before .before .before .copy-row2 .ensures) (lent-held _ (omega (arith, s .pre .0 .3)) (s .pre .0 .0) (s .pre .0 .1) (s .pre .1)) (m .0) (m .1 (s .pre .1)))
+    let x = c .before .before .before .before .before .before .before .before .before .before .before .before .before .before .before .before .before .before .before .before .before .before .before .before .before .copy-row .ensures in
+    let y = c .before .before .before .before .before .before .before .before .before .before .before .before .before .before .before .before .before .before .before .before .copy-row2 .ensures in
+    let lent = lent-held _ (omega (arith, s .pre .0 .3)) (s .pre .0 .0) (s .pre .0 .1) (s .pre .1) in
+    (still-only _ _ (m .0), λ a₀ d₀ u. gone-still _ _ u x y lent (m .0) (m .1 (s .pre .1)))
 
 same-length-11 : tie.Need-same-length-11
 same-length-11 c = search needs
@@ -95,7 +104,10 @@ returns-3 : tie.Need-returns-3
 returns-3 c =
     let s = c .before .before .before .before .before .before .before .before .before .before .before .before .before .before .before .before .before .before .before .before .before .before .before .before .before .before .before .before .before .before .before .before .before in
     let m = rw (c .enum-told3 .given .1) at (c .before .before .before .before .before .before .before .before .before .before .before .before .take .ensures) in
-    (still-only _ _ (m .0), λ a₀ d₀ u. gone-denied _ _ u (c .before .before .before .before .before .before .before .before .before .before .before .before .before .before .before .before .before .before .before .before .before .before .before .before .before .copy-row .ensures) (c .before .before .before .before .before .before .before .before .before .before .before .before .before .before .before .before .before .before .before .before .copy-row2 .ensures) (lent-held _ (omega (arith, s .pre .0 .3)) (s .pre .0 .0) (s .pre .0 .1) (s .pre .1)) (m .1 (s .pre .1)))
+    let x = c .before .before .before .before .before .before .before .before .before .before .before .before .before .before .before .before .before .before .before .before .before .before .before .before .before .copy-row .ensures in
+    let y = c .before .before .before .before .before .before .before .before .before .before .before .before .before .before .before .before .before .before .before .before .copy-row2 .ensures in
+    let lent = lent-held _ (omega (arith, s .pre .0 .3)) (s .pre .0 .0) (s .pre .0 .1) (s .pre .1) in
+    (still-only _ _ (m .0), λ a₀ d₀ u. gone-denied _ _ u x y lent (m .1 (s .pre .1)))
 
 pub advance-spec : {M : Type 1} → statement M
 advance-spec =

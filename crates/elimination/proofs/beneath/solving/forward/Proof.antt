@@ -6,6 +6,7 @@ use native.Mathlib.Nat.{mul-le-mul-right}
 use native.Mathlib.Omega.{arith}
 use borrow.Author.Needs.{needs}
 use lib.ListN.{length}
+use Rattle.linear.specs.Bytes.{Bytes}
 use Rattle.linear.proofs.Rows.{only-trans, only-more}
 use Rattle.elimination.proofs.Steps.{room-kept, room-less}
 use Rattle.elimination.specs.Taking.{Wide}
@@ -24,13 +25,16 @@ abbrev μ-loop : tie.MeasureT-loop
 loop-holds : tie.Need-loop-holds Inv-loop μ-loop
 loop-holds c =
     let s = c .before .before .before .before .before in
-    (omega arith, s .pre .2, under-none (s .args .l) (s .args .t) _ (λ x. omega (arith, c .before .before .before .before .slice-known .given x)) (λ x. omega (arith, c .before .before .before .slice-known2 .given x)), refl)
+    let rows : Bytes (s .args .rows .now) = λ x. omega (arith, c .before .before .before .before .slice-known .given x) in
+    let values : Bytes (s .args .values .now) = λ x. omega (arith, c .before .before .before .slice-known2 .given x) in
+    (omega arith, s .pre .2, under-none (s .args .l) (s .args .t) _ rows values, refl)
 
 advance-requires : tie.Need-advance-requires Inv-loop μ-loop
 advance-requires c κs =
     let s = c .before .before .before .before .before .before .before .before .before .before .before .before in
-    let v = c .before .before .before .before .before .before .loop .inv in (
-      (room-kept (room-less (omega (arith, c .before .before .before .before .before .loop-test .taken)) (s .pre .0)) (v .2 .rows .size) (v .2 .symbols .size), record { enough = omega (arith, s .pre .1 .enough, v .3); small = s .pre .1 .small }, v .1, v .2 .enough),
+    let v = c .before .before .before .before .before .before .loop .inv in
+    let h : c .before .before .before .before .before .before .loop .i + 1 ≤ s .args .m = omega (arith, c .before .before .before .before .before .loop-test .taken) in (
+      (room-kept (room-less h (s .pre .0)) (v .2 .rows .size) (v .2 .symbols .size), record { enough = omega (arith, s .pre .1 .enough, v .3); small = s .pre .1 .small }, v .1, v .2 .enough),
       v .2 .stands,
     )
 
@@ -41,19 +45,34 @@ enum-told : tie.Need-enum-told Inv-loop μ-loop
 enum-told c = search needs
 
 same-length : tie.Need-same-length Inv-loop μ-loop
-same-length c = omega (arith, c .before .before .before .before .before .before .before .before .before .before .before .before .before .before .before .before .before .before .before .loop .inv .2 .rows .size, c .before .before .before .before .before .before .before .before .before .before .before .before .advance .ensures .0 .0 .size)
+same-length c =
+    let v = c .before .before .before .before .before .before .before .before .before .before .before .before .before .before .before .before .before .before .before .loop .inv in
+    let e = c .before .before .before .before .before .before .before .before .before .before .before .before .advance in
+    omega (arith, v .2 .rows .size, e .ensures .0 .0 .size)
 
 same-length-2 : tie.Need-same-length-2 Inv-loop μ-loop
-same-length-2 c = omega (arith, c .before .before .before .before .before .before .before .before .before .before .before .before .before .before .before .before .before .before .before .loop .inv .2 .symbols .size, c .before .before .before .before .before .before .before .before .before .before .before .before .advance .ensures .0 .1 .size)
+same-length-2 c =
+    let v = c .before .before .before .before .before .before .before .before .before .before .before .before .before .before .before .before .before .before .before .loop .inv in
+    let e = c .before .before .before .before .before .before .before .before .before .before .before .before .advance in
+    omega (arith, v .2 .symbols .size, e .ensures .0 .1 .size)
 
 same-length-3 : tie.Need-same-length-3 Inv-loop μ-loop
-same-length-3 c = omega (arith, c .before .before .before .before .before .before .before .before .before .before .before .before .before .before .before .before .before .before .before .loop .inv .3, c .before .before .before .before .before .before .before .before .before .before .before .before .advance .kept)
+same-length-3 c =
+    let v = c .before .before .before .before .before .before .before .before .before .before .before .before .before .before .before .before .before .before .before .loop .inv in
+    let e = c .before .before .before .before .before .before .before .before .before .before .before .before .advance in
+    omega (arith, v .3, e .kept)
 
 same-length-4 : tie.Need-same-length-4 Inv-loop μ-loop
-same-length-4 c = omega (arith, c .before .before .before .before .before .before .before .before .before .before .before .before .before .before .before .before .before .before .before .loop .inv .1 .row, c .before .before .before .before .before .before .before .before .before .before .before .before .before .before .before .before .before .before .before .before .before .before .before .before .before .pre .2 .row, c .before .before .before .before .before .before .before .before .before .before .before .before .advance .kept)
+same-length-4 c =
+    let v = c .before .before .before .before .before .before .before .before .before .before .before .before .before .before .before .before .before .before .before .loop .inv in
+    let e = c .before .before .before .before .before .before .before .before .before .before .before .before .advance in
+    omega (arith, v .1 .row, c .before .before .before .before .before .before .before .before .before .before .before .before .before .before .before .before .before .before .before .before .before .before .before .before .before .pre .2 .row, e .kept)
 
 same-length-5 : tie.Need-same-length-5 Inv-loop μ-loop
-same-length-5 c = omega (arith, c .before .before .before .before .before .before .before .before .before .before .before .before .before .before .before .before .before .before .before .loop .inv .1 .symbol, c .before .before .before .before .before .before .before .before .before .before .before .before .before .before .before .before .before .before .before .before .before .before .before .before .before .pre .2 .symbol, c .before .before .before .before .before .before .before .before .before .before .before .before .advance .kept)
+same-length-5 c =
+    let v = c .before .before .before .before .before .before .before .before .before .before .before .before .before .before .before .before .before .before .before .loop .inv in
+    let e = c .before .before .before .before .before .before .before .before .before .before .before .before .advance in
+    omega (arith, v .1 .symbol, c .before .before .before .before .before .before .before .before .before .before .before .before .before .before .before .before .before .before .before .before .before .before .before .before .before .pre .2 .symbol, e .kept)
 
 returns : tie.Need-returns Inv-loop μ-loop
 returns c =
@@ -61,10 +80,10 @@ returns c =
     let v = c .before .before .before .before .before .before .before .before .before .before .before .before .before .before .before .before .before .before .before .loop .inv in
     let e = c .enum-told .given .1 in
     let u = c .before .before .before .before .before .before .before .before .before .before .before .before .advance .ensures in
-    let h : c .before .before .before .before .before .before .before .before .before .before .before .before .before .before .before .before .before .before .before .loop .i + 1 ≤ s .m = omega (arith, c .before .before .before .before .before .before .before .before .before .before .before .before .before .before .before .before .before .before .loop-test .taken) in (
-      (only-trans (only-more (mul-le-mul-right (s .l) (v .0)) (v .2 .rows)) (only-more (mul-le-mul-right (s .l) h) (u .0 .0)), only-trans (only-more (mul-le-mul-right (s .t) (v .0)) (v .2 .symbols)) (only-more (mul-le-mul-right (s .t) h) (u .0 .1))),
-      (rw e (gone-more (s .l) (s .t) (s .rows .now) (s .values .now) h (rw e at (u .1 _ _ (v .2))))),
-    )
+    let h : c .before .before .before .before .before .before .before .before .before .before .before .before .before .before .before .before .before .before .before .loop .i + 1 ≤ s .m = omega (arith, c .before .before .before .before .before .before .before .before .before .before .before .before .before .before .before .before .before .before .loop-test .taken) in
+    let rows = only-trans (only-more (mul-le-mul-right (s .l) (v .0)) (v .2 .rows)) (only-more (mul-le-mul-right (s .l) h) (u .0 .0)) in
+    let symbols = only-trans (only-more (mul-le-mul-right (s .t) (v .0)) (v .2 .symbols)) (only-more (mul-le-mul-right (s .t) h) (u .0 .1)) in
+    ((rows, symbols), (rw e (gone-more (s .l) (s .t) (s .rows .now) (s .values .now) h (rw e at (u .1 _ _ (v .2))))))
 
 add-i : tie.Need-add-i Inv-loop μ-loop
 add-i c = omega (arith, c .before .before .before .before .before .before .before .before .before .before .before .before .before .before .before .before .before .before .before .loop-test .taken)
@@ -75,8 +94,12 @@ loop-less c = omega (arith, c .before .before .before .before .before .before .b
 loop-again : tie.Need-loop-again Inv-loop μ-loop
 loop-again c =
     let v = c .before .before .before .before .before .before .before .before .before .before .before .before .before .before .before .before .before .before .before .before .loop .inv in
-    let u = c .before .before .before .before .before .before .before .before .before .before .before .before .before .advance .ensures in
-    (omega (arith, c .before .before .before .before .before .before .before .before .before .before .before .before .before .before .before .before .before .before .before .loop-test .taken), record { row = omega (arith, v .1 .row, c .before .before .before .before .before .before .before .before .before .before .before .before .before .advance .kept); symbol = omega (arith, v .1 .symbol, c .before .before .before .before .before .before .before .before .before .before .before .before .before .advance .kept) }, (rw (c .before .p .given .1) at (u .1 _ _ (v .2))), omega (arith, v .3, c .before .before .before .before .before .before .before .before .before .before .before .before .before .advance .kept))
+    let e = c .before .before .before .before .before .before .before .before .before .before .before .before .before .advance in (
+      omega (arith, c .before .before .before .before .before .before .before .before .before .before .before .before .before .before .before .before .before .before .before .loop-test .taken),
+      record { row = omega (arith, v .1 .row, e .kept); symbol = omega (arith, v .1 .symbol, e .kept) },
+      (rw (c .before .p .given .1) at (e .ensures .1 _ _ (v .2))),
+      omega (arith, v .3, e .kept),
+    )
 
 same-length-6 : tie.Need-same-length-6 Inv-loop μ-loop
 same-length-6 c = c .before .loop .inv .2 .rows .size

@@ -39,10 +39,12 @@ same-length-2 c = search needs
 
 returns : tie.Need-returns
 returns c =
-    let bytes : Bytes (c .before .before .before .before .before .before .before .before .before .before .before .before .before .before .before .before .before .before .before .before .before .before .before .before .before .args .values .now) = λ x. omega (arith, c .before .before .before .before .before .before .before .before .before .before .before .before .before .before .before .before .before .before .before .before .before .before .before .slice-known2 .given x) in
+    let s = c .before .before .before .before .before .before .before .before .before .before .before .before .before .before .before .before .before .before .before .before .before .before .before .before .before in
+    let bytes : Bytes (s .args .values .now) = λ x. omega (arith, c .before .before .before .before .before .before .before .before .before .before .before .before .before .before .before .before .before .before .before .before .before .before .before .slice-known2 .given x) in
     let e = c .before .before .before .before .before .before .before .before .before .before .before .before .before .before .before .before .forward-in .ensures in
     let z = c .before .before .before .before .emptied .ensures in
-    rw (z .1 .1) (answered-clash _ _ _ bytes (rw (c .before .before .before .before .before .before .before .enum-told .given .1) at (e .1)) (only-then (e .0 .0) (z .0)) (only-then (e .0 .1) (z .1 .0)))
+    let none = rw (c .before .before .before .before .before .before .before .enum-told .given .1) at (e .1) in
+    rw (z .1 .1) (answered-clash _ _ _ bytes none (only-then (e .0 .0) (z .0)) (only-then (e .0 .1) (z .1 .0)))
 
 slice-aggregate-settle : tie.Need-slice-aggregate-settle
 slice-aggregate-settle c = search needs

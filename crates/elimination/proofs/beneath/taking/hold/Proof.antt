@@ -2,6 +2,7 @@
 -- Assumes nothing.
 use native.Mathlib.Omega.{arith}
 use borrow.Author.Needs.{needs}
+use Rattle.linear.specs.Bytes.{Bytes}
 use Rattle.elimination.proofs.Joining.{put-in, lodged}
 use Rattle.elimination.proofs.beneath.taking.hold.Statement.{statement}
 use Rattle.elimination.proofs.beneath.taking.hold.Tie as tie
@@ -42,10 +43,14 @@ same-length-5 c = search needs
 returns : tie.Need-returns
 returns c =
     let s = c .before .before .before .before .before .before .before .before .before .before .before .before .before .before .before .before .before .before .before .before .before .before in
-    let m = c .before .before .before .before .before .before .before .before .before .before .before .before .before .before .make-one .ensures in
+    let m = c .before .before .before .before .before .before .before .before .before .before .before .before .before .before .make-one in
     let a = c .before .before .before .before .before .before .before .copy-row .ensures in
     let d = c .before .before .copy-row2 .ensures in
-    (put-in (s .args .c) (c .before .before .before .before .before .before .before .before .before .before .before .before .before .before .make-one .last .0) (c .before .before .before .before .before .before .before .before .before .before .before .before .before .before .make-one .last .1 .0) (s .pre .0) a d, lodged (s .pre .0) (s .pre .1) (s .pre .2) (λ x. omega (arith, c .before .before .before .before .before .before .before .before .before .before .before .before .before .before .before .before .before .before .slice-known4 .given x)) (m .0) (m .1) a d (λ x. omega (arith, c .before .before .before .before .before .slice-known8 .given x)) (λ x. omega (arith, c .slice-known9 .given x)))
+    let row : Bytes (s .args .row .now) = λ x. omega (arith, c .before .before .before .before .before .before .before .before .before .before .before .before .before .before .before .before .before .before .slice-known4 .given x) in (
+      put-in (s .args .c) (m .last .0) (m .last .1 .0) (s .pre .0) a d,
+      lodged (s .pre .0) (s .pre .1) (s .pre .2) row (m .ensures .0) (m .ensures .1) a d
+          (λ x. omega (arith, c .before .before .before .before .before .slice-known8 .given x)) (λ x. omega (arith, c .slice-known9 .given x)),
+    )
 
 pub hold-spec : {M : Type 1} → statement M
 hold-spec =

@@ -15,7 +15,10 @@ seek-requires : tie.Need-seek-requires
 seek-requires c κs = search needs
 
 hold-requires : tie.Need-hold-requires
-hold-requires c κs = let s = c .before .before .before .before .before .before .before .before .before .before .before .before .before .before .before .before .before .before .before .before .before .before .before in (s .pre .1 .2 (c .before .before .before .before .before .before .seek .ensures .vacant (c .before .before .before .before .before .if1 .taken)), c .before .before .before .before .before .before .before .before .before .before .before .before .sift .ensures .0, c .before .before .before .before .before .if1 .taken, s .pre .1 .1)
+hold-requires c κs =
+    let s = c .before .before .before .before .before .before .before .before .before .before .before .before .before .before .before .before .before .before .before .before .before .before .before in
+    let h = c .before .before .before .before .before .if1 .taken in
+    (s .pre .1 .2 (c .before .before .before .before .before .before .seek .ensures .vacant h), c .before .before .before .before .before .before .before .before .before .before .before .before .sift .ensures .0, h, s .pre .1 .1)
 
 same-length : tie.Need-same-length
 same-length c = search needs
@@ -34,15 +37,18 @@ same-length-5 c = search needs
 
 returns : tie.Need-returns
 returns c =
-    let s = c .before .before .before .before .before .before .before .before .before .before .before .before .before .before .before .before .before .before .before .before .before .before .before .before .before .before .before .before .before .before .before .before .before .before in
-    let f = c .before .before .before .before .before .before .before .before .before .before .before .before .before .before .before .before .before .seek .ensures in
+    let k = c .before .before .before .before .before .before .before .before .before .before .before .before .before .before .before .before .before .seek in
     let h = c .before .before .before .before .before .before .before .before .before .before .before .before .before .before .before .before .if1 .taken in
-    let v = f .vacant h in
-    let nz = f .first v .other h in
-    let p = c .before .before .before .before .before .before .before .before .before .before .hold .ensures in (
+    let v = k .ensures .vacant h in
+    let f = k .ensures .first v in
+    let p = c .before .before .before .before .before .before .before .before .before .before .hold .ensures in
+    let w = c .before .before .before .before .before .before .before .before .before .before .before .before .before .before .before .before .before .before .before .before .before .before .before .sift .ensures .1 in (
       v,
-      (c .before .before .before .before .before .before .before .before .before .before .before .before .before .before .before .before .before .seek .result, h, p .0),
-      λ q. (let w = c .before .before .before .before .before .before .before .before .before .before .before .before .before .before .before .before .before .before .before .before .before .before .before .sift .ensures .1 q in record { stands = p .1 .stands (record { gone = w .gone; low = λ k l. f .first v .zeros k l (omega arith); other = nz }) q; says = λ S u. p .1 .says nz S (holds-kept u (w .keeps)) }),
+      (k .result, h, p .0),
+      λ q. record {
+        stands = p .1 .stands (record { gone = w q .gone; low = λ i l. f .zeros i l (omega arith); other = f .other h }) q;
+        says = λ S u. p .1 .says (f .other h) S (holds-kept u (w q .keeps));
+      },
     )
 
 first-other-requires : tie.Need-first-other-requires
@@ -65,8 +71,10 @@ same-length-10 c = search needs
 
 returns-2 : tie.Need-returns-2
 returns-2 c =
-    let s = c .before .before .before .before .before .before .before .before .before .before .before .before .before .before .before .before .before .before .before .before .before in
-    (record { pivots = refl; rows = refl; symbols = refl }, λ q. take-denied (s .pre .0 .0) q (c .before .before .before .before .before .before .before .before .before .before .sift .ensures .1 q) (c .before .before .before .before .seek .ensures) (omega (arith, c .before .before .before .if1 .left)) (c .before .first-other .ensures) (c .if2 .taken))
+    let lent = c .before .before .before .before .before .before .before .before .before .before .before .before .before .before .before .before .before .before .before .before .before .pre .0 .0 in
+    let w = c .before .before .before .before .before .before .before .before .before .before .sift .ensures .1 in
+    let k = c .before .before .before .before .seek .ensures in
+    (record { pivots = refl; rows = refl; symbols = refl }, λ q. take-denied lent q (w q) k (omega (arith, c .before .before .before .if1 .left)) (c .before .first-other .ensures) (c .if2 .taken))
 
 same-length-11 : tie.Need-same-length-11
 same-length-11 c = search needs
@@ -85,8 +93,10 @@ same-length-15 c = search needs
 
 returns-3 : tie.Need-returns-3
 returns-3 c =
-    let s = c .before .before .before .before .before .before .before .before .before .before .before .before .before .before .before .before .before .before .before .before .before in
-    (record { pivots = refl; rows = refl; symbols = refl }, λ q. take-followed (s .pre .0 .0) q (c .before .before .before .before .before .before .before .before .before .before .sift .ensures .1 q) (c .before .before .before .before .seek .ensures) (omega (arith, c .before .before .before .if1 .left)) (c .before .first-other .ensures) (omega (arith, c .if2 .left)))
+    let lent = c .before .before .before .before .before .before .before .before .before .before .before .before .before .before .before .before .before .before .before .before .before .pre .0 .0 in
+    let w = c .before .before .before .before .before .before .before .before .before .before .sift .ensures .1 in
+    let k = c .before .before .before .before .seek .ensures in
+    (record { pivots = refl; rows = refl; symbols = refl }, λ q. take-followed lent q (w q) k (omega (arith, c .before .before .before .if1 .left)) (c .before .first-other .ensures) (omega (arith, c .if2 .left)))
 
 pub take-spec : {M : Type 1} → statement M
 take-spec =
