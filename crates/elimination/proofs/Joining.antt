@@ -14,14 +14,14 @@ use Rattle.field.specs.Octet.{plus, times, inverse}
 use Rattle.field.proofs.Laws.{times-lt, times-zero, times-comm, inverse-times}
 use Rattle.field.proofs.Writing.{written-as}
 use Rattle.linear.specs.Field.{Field}
-use Rattle.linear.specs.Index.{Col, cut}
+use Rattle.linear.specs.Index.{Col}
 use Rattle.linear.specs.Span.{InSpan, Within}
 use Rattle.linear.specs.System.{System, equation}
 use Rattle.linear.specs.Octets.{octets, Octet, oct}
 use Rattle.linear.specs.Bytes.{Bytes, cell, symbols, storedSystem, inOctets}
 use Rattle.linear.specs.Rows.{RowAdded, RowTimes, RowCopied, behind}
 use Rattle.linear.specs.Elimination.{Holds, Stepped}
-use Rattle.linear.proofs.Span.{span-member, span-zero, span-eq, span-trans, span-pull, within-trans}
+use Rattle.linear.proofs.Span.{span-member, span-zero, span-eq, within-trans}
 use Rattle.linear.proofs.Octets.{oct-zero}
 use Rattle.linear.proofs.Rows.{row-other, bytes-written}
 use Rattle.linear.proofs.Behind.{behind-new, behind-row, behind-bytes, behind-written}
@@ -29,7 +29,7 @@ use Rattle.linear.proofs.Elimination.{stepped-agree, stepped-more, off-more, ro
 use Rattle.linear.proofs.Keeping.{keeps-refl, keeps-trans, keeps-added, keeps-scaled, holds-kept, holds-agree}
 use Rattle.linear.proofs.Finish.{clash}
 use Rattle.elimination.specs.Steps.{Passed, FirstOther, column}
-use Rattle.elimination.specs.Taking.{Lent, RoomForOne, Wide, Onto, Times, Swept, Sought, Fresh, PutIn, Lodged, Spanned, Followed, Denied}
+use Rattle.elimination.specs.Taking.{Lent, RoomForOne, Wide, Onto, Times, Swept, Sought, Fresh, PutIn, Lodged, Followed, Denied}
 use Rattle.elimination.proofs.Buffers.{written-long}
 open Field octets using (𝟘)
 
@@ -129,20 +129,6 @@ put-in {r = r} c x₁ y₁ {ps = ps} place ca cd = record {
   new = getD-set-same ps r c 0 (place .pivots);
 }
 
--- the places of r + 1 rows
-pub lent-more : {L T r c : ℕ} {ps a d ps₁ a₁ d₁ : List ℕ} → Lent L T r ps a d → RoomForOne L T r ps a d → c < L → PutIn L T r c ps a d ps₁ a₁ d₁
-    → Lent L T (r + 1) ps₁ a₁ d₁
-lent-more {L} {T} {r} {c} {ps} {ps₁ = ps₁} lent place h p = record {
-  rows = omega (arith, place .rows, p .rows .size);
-  symbols = omega (arith, place .symbols, p .symbols .size);
-  pivots = omega (arith, place .pivots, p .pivots);
-  below = λ k l. go k l (ℕ-discrete k r);
-}
-  where
-    go : (k : ℕ) → k < r + 1 → Dec (k ≡ r) → column ps₁ k < L
-    go k l (yes e) = let z : column ps₁ k ≡ c = ap (column ps₁) e ∙ p .new in omega arith
-    go k l (no n) = let z : column ps₁ k ≡ column ps k = p .old k n in let b : column ps k < L = lent .below k (omega arith) in omega arith
-
 -- ---- or it depends on the held ones
 
 module _ {L T r : ℕ} {ps a d x y x₁ y₁ : List ℕ} (lent : Lent L T r ps a d) (t : Stepped L r (column ps) a d) (s : Swept L T r r ps a d x y x₁ y₁) where
@@ -171,19 +157,6 @@ module _ {L T r : ℕ} {ps a d x y x₁ y₁ : List ℕ} (lent : Lent L T r ps a
     last : (k : ℕ) → k < L → cell L (behind L r a x₁) r k ≡ 0
     last k h = behind-new L r a x₁ (lent .rows) k ∙ za k h
 
-    -- its row is a combination of the held rows
-    spanned : Spanned L r a x
-    unfolding equation
-    spanned = span-eq octets (λ c. ap oct (sym (behind-new L r a x (lent .rows) (c .0))))
-        (span-trans octets (span-pull octets (λ (c : Col L). inl c) (s .keeps .says .back r (omega arith))) within)
-      where
-        within : Within octets (r + 1) (λ i c. all i (inl c)) r (cut L (symbols L a))
-        within i h = go (ℕ-discrete i r)
-          where
-            go : Dec (i ≡ r) → InSpan octets r (cut L (symbols L a)) (λ c. oct (cell L (behind L r a x₁) i (c .0)))
-            go (yes e) = span-zero octets r (cut L (symbols L a)) (λ c. ap (λ (z : ℕ). oct (cell L (behind L r a x₁) z (c .0))) e ∙ ap oct (last (c .0) (c .1)) ∙ oct-zero)
-            go (no n) = span-eq octets (λ c. ap oct (behind-row L r a x₁ (lent .rows) i (omega arith) (c .0) (c .1))) (span-member octets r (cut L (symbols L a)) i (omega arith))
-
     -- its symbol is what they make of it
     module _ (zd : (b : ℕ) → b < T → getD y₁ b 0 ≡ 0) where
       zero-last : (j : Col L ⊎ Col T) → all r j ≡ 𝟘
@@ -200,7 +173,6 @@ module _ {L T r : ℕ} {ps a d x y x₁ y₁ : List ℕ} (lent : Lent L T r ps a
 
       followed : Followed L T r a d x y
       followed = record {
-        row = spanned;
         says = λ S h.
             let k = holds-kept {S = S} h (s .keeps) in
             record { to = λ i l. span-eq octets (before i l) (k .to i (omega arith)); back = within-trans octets (k .back) dropped };
@@ -208,7 +180,6 @@ module _ {L T r : ℕ} {ps a d x y x₁ y₁ : List ℕ} (lent : Lent L T r ps a
 
     denied : (b : ℕ) → b < T → getD y₁ b 0 ≢ 0 → Denied L T r a d x y
     denied b l nz = record {
-      row = spanned;
       none = λ S h. clash r b (holds-kept {S = S} h (s .keeps)) (behind-bytes T r d y₁ (lent .symbols) (t .symbol-bytes) (s .symbol-bytes)) (omega arith) l last
           (λ e. nz (sym (behind-new T r d y₁ (lent .symbols) b) ∙ e));
     }

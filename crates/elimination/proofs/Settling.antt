@@ -5,7 +5,7 @@ use mathlib.Core.List.{List}
 use Prim.Native.Nat.{ℕ, _+_, _-_, _*_, _≤_, _<_}
 use native.Mathlib.Omega.{arith}
 use lib.ListN.{length, getD}
-use Rattle.linear.specs.Bytes.{Bytes, cell}
+use Rattle.linear.specs.Bytes.{Bytes}
 use Rattle.linear.specs.Back.{Brought, MetFrom}
 use Rattle.linear.specs.Rows.{RowAdded, OnlyBelow}
 use Rattle.linear.specs.Elimination.{Stepped}

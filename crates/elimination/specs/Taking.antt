@@ -8,10 +8,7 @@ use Prim.Native.Nat.{ℕ, _+_, _*_, _≤_, _<_}
 use lib.ListN.{length, getD}
 use Rattle.field.specs.Octet.{plus, times}
 use Rattle.field.specs.Runs.{Written}
-use Rattle.linear.specs.Index.{cut}
-use Rattle.linear.specs.Span.{InSpan}
 use Rattle.linear.specs.System.{System}
-use Rattle.linear.specs.Octets.{octets, oct}
 use Rattle.linear.specs.Bytes.{Bytes, cell, symbols, ContradictionBytes}
 use Rattle.linear.specs.Rows.{behind}
 use Rattle.linear.specs.Elimination.{Holds, Keeps, Stepped}
@@ -88,18 +85,12 @@ pub record Joins (L T r : ℕ) (a d x y ps₁ a₁ d₁ : List ℕ) : Type 0 whe
   pub stands : Stepped L (r + 1) (column ps₁) a₁ d₁
   pub says : (S : System ℕ) → Holds (r + 1) L T S (behind L r a x) (behind T r d y) → Holds (r + 1) L T S a₁ d₁
 
--- the row is a combination of the held ones
-abbrev pub Spanned : (L r : ℕ) (a x : List ℕ) → Type 0
-Spanned L r a x = InSpan octets r (cut L (symbols L a)) (λ c. oct (getD x (c .0) 0))
-
 -- dependent: the held equations say all of it
 pub record Followed (L T r : ℕ) (a d x y : List ℕ) : Type 0 where
-  pub row : Spanned L r a x
   pub says : (S : System ℕ) → Holds (r + 1) L T S (behind L r a x) (behind T r d y) → Holds r L T S a d
 
 -- clash: no set of symbols fits the held equations and the one that came
 pub record Denied (L T r : ℕ) (a d x y : List ℕ) : Type 0 where
-  pub row : Spanned L r a x
   pub none : (S : System ℕ) → Holds (r + 1) L T S (behind L r a x) (behind T r d y) → ContradictionBytes L T S
 
 -- the stores are as they were

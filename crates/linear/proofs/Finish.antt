@@ -10,7 +10,6 @@ use native.Mathlib.Decide.{ℕ-discrete, decLt}
 use lib.ListN.{length, take, getD, List·getD-eq-default}
 use lib.Seq.{getD-take, length-take-le, ext-getD}
 use Rattle.field.specs.Octet.{times}
-use Rattle.field.specs.Sum.{sum}
 use Rattle.field.proofs.Sums.{sum-same}
 use Rattle.linear.specs.Field.{Field}
 use Rattle.linear.specs.Index.{Col, cut}
@@ -22,7 +21,7 @@ use Rattle.linear.specs.Octets.{octets, Octet, oct}
 use Rattle.linear.specs.Bytes.{Bytes, cell, Block, storedSystem, OctetSymbols, inOctets, symbols, FitsBytes, SolvedBytes, ContradictionBytes, OpenBytes, ShortfallBytes, AnswerBytes, contradicted-bytes, settled-bytes, left-open-bytes}
 use Rattle.linear.specs.Rows.{OnlyBelow}
 use Rattle.linear.specs.Elimination.{Holds, Stepped}
-use Rattle.linear.proofs.Field.{zero-mul, mul-zero, mul-one}
+use Rattle.linear.proofs.Field.{zero-mul}
 use Rattle.linear.proofs.Total.{total-ext, total-delta, delta-self, delta-other}
 use Rattle.linear.proofs.Span.{span-pull}
 use Rattle.linear.proofs.Independent.{most-of-span}

@@ -19,7 +19,7 @@ use Rattle.linear.proofs.Total.{total-ext, total-vanish, total-add, del
 use Rattle.linear.proofs.Span.{lin-lin, span-member, span-zero, span-trans, span-pull}
 use Rattle.linear.proofs.Kernel.{pigeon, pigeon-more}
 use Rattle.linear.proofs.Independent.{rank, most-of-span}
-use Rattle.linear.proofs.System.{fits-follows, contradiction-follows, clash, solved-same}
+use Rattle.linear.proofs.System.{fits-follows, contradiction-follows, clash}
 
 module _ (K : Field) where
   open Field K using (carrier as F, _⊕_, _⊗_, 𝟘, 𝟙, add-self, mul-comm, mul-add, one-ne-zero)

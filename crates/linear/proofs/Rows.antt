@@ -7,18 +7,17 @@ use Prim.Native.Nat.{ℕ, _+_, _-_, _*_, _≤_, _<_}
 use native.Mathlib.Nat.{mul-le-mul-right, zero-add}
 use native.Mathlib.Omega.{arith}
 use native.Mathlib.Decide.{ℕ-discrete, decLt}
-use lib.Bits.{xor-self, xor-zero-l, xor-zero-r}
 use lib.ListN.{length, getD}
 use Rattle.field.specs.Octet.{plus, times}
 use Rattle.field.specs.Runs.{Written}
-use Rattle.field.proofs.Laws.{zero-times, one-times}
+use Rattle.field.proofs.Laws.{one-times}
 use Rattle.field.proofs.Writing.{written-as}
 use Rattle.linear.specs.Field.{Field}
 use Rattle.linear.specs.Index.{cut, update}
 use Rattle.linear.specs.RowOps.{Added, Scaled}
 use Rattle.linear.specs.Octets.{octets, Octet, oct}
 use Rattle.linear.specs.Bytes.{Bytes, cell, symbols}
-use Rattle.linear.specs.Rows.{RowAdded, RowTimes, RowCopied, OnlyBelow}
+use Rattle.linear.specs.Rows.{RowAdded, RowTimes, OnlyBelow}
 use Rattle.linear.proofs.Field.{add-zero, zero-mul}
 use Rattle.linear.proofs.Index.{update-same, update-other}
 use Rattle.linear.proofs.Octets.{oct-one, oct-plus, oct-times}
