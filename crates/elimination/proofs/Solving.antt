@@ -9,7 +9,7 @@ use native.Mathlib.Omega.{arith}
 use native.Mathlib.Decide.{ℕ-discrete}
 use lib.ListN.{getD}
 use Rattle.field.specs.Runs.{Written}
-use Rattle.linear.specs.System.{System, SameEquation}
+use Rattle.linear.specs.System.{System, SameEquation, OneOf}
 use Rattle.linear.specs.Octets.{octets}
 use Rattle.linear.specs.Bytes.{Bytes, cell, storedSystem, OctetSymbols, FitsBytes, ContradictionBytes, ShortfallBytes}
 use Rattle.linear.specs.Rows.{RowCopied, OnlyBelow}
@@ -65,14 +65,20 @@ module _ {L T i r : ℕ} {ps a₀ d₀ a d x₀ y₀ : List ℕ} (x y : List ℕ
       let e : 0 * w + c ≡ c = omega arith in
       ap (λ (k : ℕ). getD z k 0) (sym e) ∙ s .part c h ∙ only-past o (i * w + c) (omega arith)
 
-  one-more : OneMore L T (storedSystem i L T a₀ d₀) x y (storedSystem (i + 1) L T a₀ d₀)
+  abbrev S : System ℕ
+  S = storedSystem i L T a₀ d₀
+
+  abbrev R : System ℕ
+  R = storedSystem (i + 1) L T a₀ d₀
+
+  one-more : OneMore L T S x y R
   one-more = record {
     old = λ k h. (k, omega arith, record { coefs = λ c l. refl; bytes = λ t l. refl });
     new = λ k h. (i, omega arith, record { coefs = entry L a₀ a x₀ x (u .rows) cx; bytes = entry T d₀ d y₀ y (u .symbols) cy });
     only = λ k h. go k h (ℕ-discrete k i);
   }
     where
-      go : (k : ℕ) → k < i + 1 → Dec (k ≡ i) → ((n : ℕ) × (n < i) × SameEquation L T (storedSystem (i + 1) L T a₀ d₀) k (storedSystem i L T a₀ d₀) n) ⊎ SameEquation L T (storedSystem (i + 1) L T a₀ d₀) k (alone x y) 0
+      go : (k : ℕ) → k < i + 1 → Dec (k ≡ i) → OneOf L T R k S ⊎ SameEquation L T R k (alone x y) 0
       go k h (yes e) = inr (record {
         coefs = λ c l. ap (λ (z : ℕ). cell L a₀ z c) e ∙ sym (entry L a₀ a x₀ x (u .rows) cx c l);
         bytes = λ t l. ap (λ (z : ℕ). cell T d₀ z t) e ∙ sym (entry T d₀ d y₀ y (u .symbols) cy t l);

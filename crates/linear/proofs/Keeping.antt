@@ -11,7 +11,7 @@ use lib.ListN.{length}
 use Rattle.field.specs.Octet.{times}
 use Rattle.linear.specs.Index.{Col}
 use Rattle.linear.specs.Span.{InSpan, Within}
-use Rattle.linear.specs.System.{System, SameEquation, Included, equation}
+use Rattle.linear.specs.System.{System, SameEquation, OneOf, Included, equation}
 use Rattle.linear.specs.Octets.{octets, Octet, oct}
 use Rattle.linear.specs.Bytes.{cell, storedSystem, inOctets}
 use Rattle.linear.specs.Rows.{RowAdded, RowTimes, behind}
@@ -113,7 +113,7 @@ module _ {L T r : ℕ} {S R : System ℕ} {a d x y : List ℕ} (fa : r * L ≤ l
   back′ : (i : ℕ) → i < R .count → InSpan octets (r + 1) all (whole i)
   back′ i l = go (m .only i l)
     where
-      go : ((k : ℕ) × (k < S .count) × SameEquation L T R i S k) ⊎ SameEquation L T R i (alone x y) 0 → InSpan octets (r + 1) all (whole i)
+      go : OneOf L T R i S ⊎ SameEquation L T R i (alone x y) 0 → InSpan octets (r + 1) all (whole i)
       go (inl (k, b, e)) = span-eq octets (same e) (span-trans octets (h .back k b) held-within)
       go (inr e) = span-eq octets (λ j. same e j ∙ sym (new-row j)) (span-member octets (r + 1) all r (omega arith))
 

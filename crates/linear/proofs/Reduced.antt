@@ -1,5 +1,5 @@
 -- What a reduced form says of every system with the same consequences: which of the three answers it has, the set that solves it, and the
--- most independent rows. However an elimination goes about it, it ends here.
+-- most independent rows.
 -- Assumes nothing.
 use mathlib.Core.Path.{_≡_, sym, ap, ap₂, _∙_}
 use mathlib.Core.Logic.{_≢_, _⊎_, inl, inr}

@@ -7,7 +7,7 @@ use mathlib.Core.List.{List}
 use Prim.Native.Nat.{ℕ, _<_}
 use lib.ListN.{getD}
 use Rattle.linear.specs.Span.{SameSpan}
-use Rattle.linear.specs.System.{System, SameEquation, Included, equation, Follows}
+use Rattle.linear.specs.System.{System, SameEquation, OneOf, Included, equation, Follows}
 use Rattle.linear.specs.Octets.{octets}
 use Rattle.linear.specs.Bytes.{Bytes, cell, storedSystem, inOctets}
 
@@ -24,7 +24,7 @@ alone x y = record { count = 1; coef = λ _ c. getD x c 0; byte = λ _ t. getD y
 pub record OneMore (L T : ℕ) (S : System ℕ) (x y : List ℕ) (R : System ℕ) : Type 0 where
   pub old : Included L T S R
   pub new : Included L T (alone x y) R
-  pub only : (i : ℕ) → i < R .count → ((k : ℕ) × (k < S .count) × SameEquation L T R i S k) ⊎ SameEquation L T R i (alone x y) 0
+  pub only : (i : ℕ) → i < R .count → OneOf L T R i S ⊎ SameEquation L T R i (alone x y) 0
 
 -- what a step from a, d to a₁, d₁ keeps: the first n equations say the same as before
 pub record Keeps (n L T : ℕ) (a d a₁ d₁ : List ℕ) : Type 0 where

@@ -1,4 +1,4 @@
--- The form in which every elimination ends, and the form on the way to it.
+-- The reduced form of a system, and the form on the way to it: by these every system is shown to have one of the three answers.
 -- Assumes nothing.
 use mathlib.Core.Path.{_≡_}
 use Prim.Native.Nat.{ℕ, _≤_, _<_}
