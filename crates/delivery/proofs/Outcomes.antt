@@ -20,14 +20,15 @@ use Rattle.headers.proofs.Quotient.{ceil-enough}
 use Rattle.headers.proofs.Shifts.{shifted-below}
 use Rattle.linear.specs.System.{System}
 use Rattle.linear.proofs.Bytes.{length-tabulate, getD-tabulate}
+use Rattle.linear.proofs.Growth.{fits-bytes-fewer}
 use Rattle.encoding.specs.Encoded.{encoded}
 use Rattle.encoding.proofs.Settled.{RowOf, encoded-fits}
 use Rattle.constraints.specs.Encoding.{encOf}
 use Rattle.elimination.specs.declared.verdict.Verdict.{Verdict}
 use Rattle.elimination.specs.declared.verdict.Verdict.the-variants.{Solved, Contradiction, Open}
 use Rattle.elimination.proofs.Once.{verdict-once}
-use Rattle.solver.specs.System.{fixed, sentRow}
-use Rattle.solver.proofs.Holding.{arrival-row, arrival-byte}
+use Rattle.solver.specs.System.{hdpcRows, sentRow, arrivalRows}
+use Rattle.solver.proofs.Groups.{has-arrivals}
 use Rattle.delivery.specs.Layout.{rowIn, tablesOf, fOf, kOf, tOf, nOf, packetAt, esiAt, octetAt, esisOf, symbolsOf}
 use Rattle.delivery.specs.Screen.{screen, stopOf}
 use Rattle.delivery.specs.Received.{Comes, Concluded, sourceOctet, deliveredSystem}
@@ -128,22 +129,23 @@ module _ (d : List ℕ) (p b : ℕ) (h : p < nOf d) (l : esiAt d (tOf d) p < kOf
   unfolding esisOf
   esi-is = getD-tabulate (nOf d) (esiAt d (tOf d)) p h
 
+  abbrev E : System ℕ
+  E = arrivalRows (tablesOf d) (rowIn d) (kOf d) (tOf d) (esisOf d) (symbolsOf d)
+
   -- its equation is that of its ESI
-  row-is : RowOf (tablesOf d) (rowIn d) (deliveredSystem d) (fixed (rowIn d) (kOf d) + p) (esiAt d (tOf d) p)
+  row-is : RowOf (tablesOf d) (rowIn d) E p (esiAt d (tOf d) p)
   row-is c u =
-      arrival-row (rowIn d) (tablesOf d) (kOf d) (tOf d) (esisOf d) (symbolsOf d) p c
-      ∙ ap (λ (x : ℕ). sentRow (tablesOf d) (rowIn d) (kOf d) x c) esi-is
+      ap (λ (x : ℕ). sentRow (tablesOf d) (rowIn d) (kOf d) x c) esi-is
       ∙ ap (λ (x : ℕ). encOf (tablesOf d) (rowIn d) x c) (shifted-below (kOf d) (rowIn d .kp) (esiAt d (tOf d) p) l)
 
   -- and its symbol is what stands in the packet
-  byte-is : deliveredSystem d .byte (fixed (rowIn d) (kOf d) + p) b ≡ getD d (packetAt (tOf d) p + 4 + b) 0
+  byte-is : E .byte p b ≡ getD d (packetAt (tOf d) p + 4 + b) 0
   unfolding symbolsOf octetAt
   byte-is =
-      arrival-byte (rowIn d) (tablesOf d) (kOf d) (tOf d) (esisOf d) (symbolsOf d) p b
-      ∙ getD-tabulate (nOf d * tOf d) (octetAt d (tOf d)) (p * tOf d + b) (digits-lt h s)
+      getD-tabulate (nOf d * tOf d) (octetAt d (tOf d)) (p * tOf d + b) (digits-lt h s)
       ∙ ap₂ (λ (x y : ℕ). getD d (packetAt (tOf d) x + 4 + y) 0) (digits-div p s) (digits-mod p s)
 
-  counted : fixed (rowIn d) (kOf d) + p < deliveredSystem d .count
+  counted : p < E .count
   unfolding esisOf
   counted = omega (arith, length-tabulate (nOf d) (esiAt d (tOf d)))
 
@@ -153,7 +155,8 @@ module _ (d : List ℕ) (p b : ℕ) (h : p < nOf d) (l : esiAt d (tOf d) p < kOf
       let w = a .1 .1 in
       let C = take (lOf (rowIn d) * tOf d) (w .set) in
       let i = esiAt d (tOf d) p in
+      let arrived = has-arrivals (hdpcRows (tablesOf d) (rowIn d)) (rowIn d) (tablesOf d) (kOf d) (tOf d) (esisOf d) (symbolsOf d) _ _ in
       ap (λ (x : ℕ). getD ys x 0) (sym (zero-add (i * tOf d + b))) ∙ w .leaves .part (i * tOf d + b) (digits-lt l s)
       ∙ ap₂ (λ (x y : ℕ). encoded (tablesOf d) (rowIn d) x (tOf d) C y) (digits-div i s) (digits-mod i s)
-      ∙ encoded-fits (tablesOf d) (rowIn d) i (tOf d) C (deliveredSystem d) (w .means .0 .fits) (fixed (rowIn d) (kOf d) + p) counted row-is b s
+      ∙ encoded-fits (tablesOf d) (rowIn d) i (tOf d) C E (fits-bytes-fewer arrived (w .means .0 .fits)) p counted row-is b s
       ∙ byte-is

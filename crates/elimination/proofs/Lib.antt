@@ -1,5 +1,8 @@
 -- The laws of the elimination. A crate above names these as `Rattle.elimination.proofs.Once`.
 pub mod Rows
 pub mod Steps
-pub mod Finish
+pub mod Buffers
+pub mod Joining
+pub mod Settling
+pub mod Solving
 pub mod Once

@@ -1,4 +1,4 @@
--- What the slab's calls leave, as operations on rows; and where the rows lie.
+-- Where the rows lie, and the inverse of an octet.
 -- Assumes nothing.
 use mathlib.Core.Path.{_≡_, refl, sym, ap, _∙_}
 use mathlib.Core.Logic.{_≢_, _⊎_, inl, inr, ⊎-elim}
@@ -8,16 +8,11 @@ use native.Mathlib.Omega.{arith}
 use native.Mathlib.Decide.{ℕ-discrete, decLt}
 use borrow.Author.Tests.{eq-eqb, ne-eqb}
 use lib.ListN.{length, getD}
-use Rattle.field.specs.Octet.{plus, doubled, copies, times, squares, inverse, over}
+use Rattle.field.specs.Octet.{doubled, copies, times, squares, inverse, over}
 use Rattle.field.specs.Answer.{given, refused, divided}
-use Rattle.field.specs.Runs.{Apart, Written, added, fused, part, scaled}
+use Rattle.field.specs.Runs.{Apart, Written}
 use Rattle.field.proofs.Laws.{one-times, inverse-lt}
-use Rattle.field.proofs.Parts.{part-at, block-ends, blocks-apart}
-use Rattle.field.proofs.Writing.{written-as}
-use Rattle.linear.specs.Bytes.{Bytes, cell}
-use Rattle.linear.specs.Rows.{RowAdded, RowTimes}
-use Rattle.linear.proofs.Rows.{row-times-one, moved-by-adding}
-use Rattle.elimination.specs.Steps.{Moved}
+use Rattle.field.proofs.Parts.{block-ends, blocks-apart}
 
 -- ---- where
 
@@ -28,10 +23,6 @@ row-in n w i h l = omega (arith, block-ends w h)
 -- two rows do not meet
 pub rows-apart : (n w i k : ℕ) {len : ℕ} → i < n → k < n → i ≢ k → n * w ≤ len → Apart len w (i * w) (k * w)
 rows-apart n w i k hi hk ne l = record { to-in = row-in n w i hi l; from-in = row-in n w k hk l; apart = blocks-apart i k w ne }
-
--- nor do they the other way round, in a store as long
-pub apart-back : {len long w i k : ℕ} → Apart len w i k → long ≡ len → Apart long w k i
-apart-back {len} {long} {w} {i} {k} a e = record { to-in = (let q = a .from-in in omega arith); from-in = (let q = a .to-in in omega arith); apart = ⊎-elim inr inl (a .apart) }
 
 -- a part that lies apart from what was written so far is as it was
 pub apart-still : {f : ℕ → ℕ} {xs ys : List ℕ} {w to from n : ℕ} → Written f xs ys to n → Apart (length xs) w to from → n ≤ w → (c : ℕ) → c < w
@@ -47,34 +38,13 @@ zeros-more f {from} {x} h z k l b = go (decLt k x)
     go (yes q) = h k q b
     go (no q) = let e : k ≡ x = omega arith in ap f e ∙ z
 
--- ---- what
-
--- the slab's sum, its source read in the whole store
-pub sum-rows : (w i k : ℕ) {xs ys : List ℕ} → Written (added xs (i * w) (part xs (k * w) w)) xs ys (i * w) w
-    → Written (λ c. plus (cell w xs i c) (cell w xs k c)) xs ys (i * w) w
-sum-rows w i k {xs} s = written-as s (λ c h. ap (plus (cell w xs i c)) (part-at xs (k * w) w c h))
-
-pub fused-rows : (w i k f : ℕ) {xs ys : List ℕ} → Written (fused xs (i * w) f (part xs (k * w) w)) xs ys (i * w) w → RowAdded w i k f xs ys
-fused-rows w i k f {xs} s = written-as s (λ c h. ap (λ (z : ℕ). plus (cell w xs i c) (times f z)) (part-at xs (k * w) w c h))
-
-pub scaled-row : (w i f : ℕ) {xs ys : List ℕ} → Written (scaled f (part xs (i * w) w)) xs ys (i * w) w → RowTimes w i f xs ys
-scaled-row w i f {xs} s = written-as s (λ c h. ap (times f) (part-at xs (i * w) w c h))
-
--- two sums move a row
-pub moved : {w i k : ℕ} {xs ys zs : List ℕ} → i ≢ k → ((c : ℕ) → c < w → cell w xs i c ≡ 0)
-    → Written (added xs (i * w) (part xs (k * w) w)) xs ys (i * w) w
-    → Written (added ys (k * w) (part ys (i * w) w)) ys zs (k * w) w → Moved w i k xs zs
-moved {w} {i} {k} {xs} {ys} ne z s u =
-    let m = moved-by-adding i k ne z (sum-rows w i k s) (sum-rows w k i u) in
-    record { between = ys; copied = m .0; cleared = m .1 }
-
 -- ---- the inverse
 
 inverse-zero : inverse 0 ≡ 0
 unfolding times copies doubled inverse squares
 inverse-zero = refl
 
-inverse-one : inverse 1 ≡ 1
+pub inverse-one : inverse 1 ≡ 1
 unfolding times copies doubled inverse squares
 inverse-one = refl
 
@@ -103,7 +73,3 @@ refused-inverse x {n} e = go (ℕ-discrete x 0)
     go (no m) =
         let q : refused n ≡ given (over 1 x) = rw (ne-eqb x 0 m) at e in
         absurd (let u : _≡_ {A = ℕ} 0 1 = cc in omega arith)
-
--- a row that is 1 there stays as it is
-pub times-inverse-one : {w f : ℕ} (i : ℕ) {xs : List ℕ} → Bytes xs → f ≡ 1 → RowTimes w i (inverse f) xs xs
-times-inverse-one i b e = row-times-one i b (ap inverse e ∙ inverse-one)

@@ -1,8 +1,8 @@
-// The elimination in two lent stores: the coefficients of the equations, row after row, and their symbols. Each function here asks that its
-// places lie inside.
-pub mod coefficients;
-pub mod eliminate;
-pub mod finish;
-pub mod reduce;
+// The elimination in two lent stores: the coefficients of the held equations, row after row, and their symbols. The stores may hold anything: each
+// function here asks of lengths and of places only, and says what its step means if they stood as an elimination leaves them.
+pub mod onto;
 pub mod rows;
-pub mod steps;
+pub mod settling;
+pub mod solving;
+pub mod taking;
+pub mod within;

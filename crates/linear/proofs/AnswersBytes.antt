@@ -6,7 +6,7 @@ use Prim.Native.Nat.{ℕ, _<_}
 use native.Mathlib.Omega.{arith}
 use Rattle.linear.specs.System.{System, Answer, contradicted, settled, left-open}
 use Rattle.linear.specs.Octets.{octets}
-use Rattle.linear.specs.Bytes.{OctetSymbols, inOctets, pack, SolvedBytes, ContradictionBytes, OpenBytes, ShortfallBytes, AnswerBytes, contradicted-bytes, settled-bytes, left-open-bytes}
+use Rattle.linear.specs.Bytes.{Block, OctetSymbols, inOctets, pack, FitsBytes, SolvedBytes, ContradictionBytes, OpenBytes, ShortfallBytes, AnswerBytes, contradicted-bytes, settled-bytes, left-open-bytes}
 use Rattle.linear.proofs.System.{same-sym, solved-same}
 use Rattle.linear.proofs.Shortfall.{shortfall-once}
 use Rattle.linear.proofs.Existence.{answer}
@@ -58,3 +58,12 @@ module _ {L T : ℕ} {S : System ℕ} where
         go (contradicted-bytes c) = absurd (open-bytes-not-contradiction o c)
         go (settled-bytes D b z) = absurd (solved-bytes-not-open b o)
         go (left-open-bytes u q m h) = let e : s ≡ u = shortfall-bytes-once l m in omega arith
+
+    -- a set that fits a system that lacks nothing is the only one
+    pub fits-single : {o : List ℕ} → ShortfallBytes L T S 0 → Block L T o → FitsBytes L T S o → SolvedBytes L T S o
+    fits-single {o} l b f = go answer-bytes
+      where
+        go : AnswerBytes L T S → SolvedBytes L T S o
+        go (contradicted-bytes c) = absurd (c .none o b f)
+        go (settled-bytes D a z) = let e : o ≡ D = a .only o b f in rw e a
+        go (left-open-bytes n x z p) = absurd (let e : n ≡ 0 = shortfall-bytes-once z l in omega arith)

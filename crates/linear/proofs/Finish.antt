@@ -1,34 +1,42 @@
--- What the elimination says of the system that it began with: a contradiction as soon as a row of zeros has a symbol that is not 0, and at the
--- end solved, with the set, or open, with the shortfall.
+-- What held equations say of every system that the stores hold: a contradiction as soon as a row of zeros comes with a symbol that is not 0, else
+-- the shortfall by how many are held, and solved, with the set, or open.
 -- Assumes nothing.
 use mathlib.Core.Path.{_≡_, sym, ap, _∙_}
-use mathlib.Core.Logic.{_≢_}
+use mathlib.Core.Logic.{_≢_, inl}
 use mathlib.Core.List.{List}
-use Prim.Native.Nat.{ℕ, _+_, _-_, _*_, _≤_, _<_}
+use Prim.Native.Nat.{ℕ, zero, suc, _+_, _-_, _*_, _≤_, _<_}
 use native.Mathlib.Omega.{arith}
 use native.Mathlib.Decide.{ℕ-discrete, decLt}
 use lib.ListN.{length, take, getD, List·getD-eq-default}
 use lib.Seq.{getD-take, length-take-le, ext-getD}
-use Rattle.field.specs.Runs.{Written}
+use Rattle.field.specs.Octet.{times}
+use Rattle.field.specs.Sum.{sum}
+use Rattle.field.proofs.Sums.{sum-same}
 use Rattle.linear.specs.Field.{Field}
+use Rattle.linear.specs.Index.{Col, cut}
+use Rattle.linear.specs.Span.{lin, Within}
+use Rattle.linear.specs.Independent.{Independent, MostIndependent}
 use Rattle.linear.specs.Total.{delta}
-use Rattle.linear.specs.System.{System}
-use Rattle.linear.specs.Reduced.{Reduced}
+use Rattle.linear.specs.System.{System, equation}
 use Rattle.linear.specs.Octets.{octets, Octet, oct}
-use Rattle.linear.specs.Bytes.{Bytes, cell, Block, storedSystem, OctetSymbols, inOctets, symbols, SolvedBytes, ContradictionBytes, OpenBytes, ShortfallBytes}
-use Rattle.linear.specs.Rows.{RowCopied, OnlyBelow}
-use Rattle.linear.specs.Elimination.{Holds, Stepped, Sifted, Held, Columns, Gathered}
-use Rattle.linear.proofs.Total.{delta-self, delta-other}
-use Rattle.linear.proofs.Kernel.{pigeon, pigeon-more}
-use Rattle.linear.proofs.System.{contradiction-follows, clash as row-clash}
-use Rattle.linear.proofs.Reduced.{shortfall, solved-by, two-fit}
+use Rattle.linear.specs.Bytes.{Bytes, cell, Block, storedSystem, OctetSymbols, inOctets, symbols, FitsBytes, SolvedBytes, ContradictionBytes, OpenBytes, ShortfallBytes, AnswerBytes, contradicted-bytes, settled-bytes, left-open-bytes}
+use Rattle.linear.specs.Rows.{OnlyBelow}
+use Rattle.linear.specs.Elimination.{Holds, Stepped}
+use Rattle.linear.proofs.Field.{zero-mul, mul-zero, mul-one}
+use Rattle.linear.proofs.Total.{total-ext, total-delta, delta-self, delta-other}
+use Rattle.linear.proofs.Span.{span-pull}
+use Rattle.linear.proofs.Independent.{most-of-span}
+use Rattle.linear.proofs.System.{fits-follows, contradiction-follows, clash as row-clash}
 use Rattle.linear.proofs.Octets.{oct-zero, oct-one, oct-once}
-use Rattle.linear.proofs.Bytes.{cell-lt, contradiction-bytes, solved-bytes, open-bytes}
-use Rattle.linear.proofs.AnswersBytes.{solved-bytes-once}
-use Rattle.linear.proofs.Rows.{row-other, only-row, only-past}
-open Field octets using (𝟘)
+use Rattle.linear.proofs.Bytes.{cell-lt, contradiction-bytes, fits-of-bytes, bytes-of-fits}
+use Rattle.linear.proofs.AnswersBytes.{answer-bytes, fits-single, shortfall-bytes-once, solved-bytes-once}
+use Rattle.linear.proofs.Rows.{only-past}
+use Rattle.linear.proofs.Elimination.{rank-at-most}
+use Rattle.linear.proofs.Back.{held-fit}
+open Field octets using (_⊗_, 𝟘)
 
--- ---- a row of zeros whose symbol is not 0, whatever rows are yet to be taken
+infixl 70 _⊗_
+-- ---- a row of zeros whose symbol is not 0
 
 pub clash : {M L T : ℕ} {S : System ℕ} {a d : List ℕ} (m t : ℕ) → Holds M L T S a d → Bytes d → m < M → t < T
     → ((c : ℕ) → c < L → cell L a m c ≡ 0) → cell T d m t ≢ 0 → ContradictionBytes L T S
@@ -36,102 +44,78 @@ clash {M} {L} {T} {S} {a} {d} m t h bd hm ht z nz = contradiction-bytes L T S
     (contradiction-follows octets L T (h .to)
     (row-clash octets L T m t hm ht (λ c l. ap oct (z c l) ∙ oct-zero) (λ e. nz (oct-once _ _ (bd _) (omega arith) (e ∙ sym oct-zero)))))
 
--- the same, of the place x of the store
-pub clash-at : {M L T : ℕ} {S : System ℕ} {a d : List ℕ} (m x : ℕ) → Holds M L T S a d → Bytes d → m < M → m * T ≤ x → x < m * T + T
-    → ((c : ℕ) → c < L → cell L a m c ≡ 0) → getD d x 0 ≢ 0
-    → ContradictionBytes L T S
-clash-at {T = T} {d = d} m x h bd hm lo hi z nz =
-    let e : m * T + (x - m * T) ≡ x = omega arith in
-    clash m (x - m * T) h bd hm (omega arith) z (λ q. nz (ap (λ (y : ℕ). getD d y 0) (sym e) ∙ q))
+-- what fits the equations in the stores fits the system that they hold
+pub held-fits : {M L T : ℕ} {S : System ℕ} {a d : List ℕ} (o : List ℕ) → Holds M L T S a d → OctetSymbols T S → FitsBytes L T (storedSystem M L T a d) o
+    → FitsBytes L T S o
+held-fits {M} {L} {T} {S} {a} {d} o h small f = bytes-of-fits L T S small o (fits-follows octets L T (h .back) (fits-of-bytes L T (storedSystem M L T a d) f))
 
--- ---- the pivots are different columns, and so not more than there are
+-- ---- the shortfall: held rows are independent
 
-pub stepped-columns : {L T m r : ℕ} {pivot : ℕ → ℕ} {a d : List ℕ} → Stepped L T m r pivot a d → Columns L r pivot
-stepped-columns {L} {r = r} {pivot = pivot} {a = a} s = record { below = s .column; once = λ i k hi hk e. go i k hi hk e (decLt i k) (decLt k i) }
-  where
-    -- row k is 1 at its own, and 0 at those before it
-    apart : (i k : ℕ) → i < k → k < r → pivot i ≡ pivot k → ⊥
-    apart i k h l e = let z : _≡_ {A = ℕ} 1 0 = sym (s .one k l) ∙ ap (cell L a k) (sym e) ∙ s .off k l i (omega arith) h in omega arith
-
-    go : (i k : ℕ) → i < r → k < r → pivot i ≡ pivot k → Dec (i < k) → Dec (k < i) → i ≡ k
-    go i k hi hk e (yes h) d = absurd (apart i k h hk e)
-    go i k hi hk e (no h) (yes l) = absurd (apart k i l hi (sym e))
-    go i k hi hk e (no h) (no l) = omega arith
-
-pub rank-at-most : {L T m r : ℕ} {pivot : ℕ → ℕ} {a d : List ℕ} → Stepped L T m r pivot a d → r ≤ L
-rank-at-most {L} {r = r} {pivot = pivot} s = let c = stepped-columns s in pigeon octets r L pivot (c .below) (c .once)
-
--- a row that is 0 at every pivot and not 0 in column q leaves room for one more pivot
-pub room : {L T m r : ℕ} {pivot : ℕ → ℕ} {a d : List ℕ} (q : ℕ) → Sifted L T m r r pivot a d → q < L → cell L a m q ≢ 0 → r < L
-room {L} {T} {m} {r} {pivot} {a} q s hq nz =
-    let c = stepped-columns (s .stepped) in
-    pigeon-more octets r L q pivot (c .below) (c .once) hq (λ k h e. nz (ap (cell L a m) (sym e) ∙ s .gone k (omega arith) h))
-
--- ---- all M rows are taken, and fully reduced
-
-module _ {M L T r : ℕ} {pivot : ℕ → ℕ} {a d : List ℕ} (held : Held L T M r pivot a d) where
-  abbrev end : System Octet
-  end = inOctets (storedSystem M L T a d)
-
-  reduced : Reduced octets L M (symbols L a) r
-  reduced = record {
-    enough = held .stepped .enough;
-    pivot = pivot;
-    pivot-below = held .stepped .column;
-    unit = λ i k h l. go i k h l (ℕ-discrete i k);
-    rest = λ i h l c b. ap oct (held .stepped .row-gone i h l c b) ∙ oct-zero;
-  }
+module _ {L r : ℕ} {pivot : ℕ → ℕ} {a d : List ℕ} (s : Stepped L r pivot a d) where
+  -- in the column of its pivot row k has 1, and those after it have 0
+  free : Independent octets r (cut L (symbols L a))
+  free = record { only-zero = λ b v i h. zeros b v (suc i) i (omega arith) h }
     where
-      go : (i k : ℕ) → i < r → k < r → Dec (i ≡ k) → oct (cell L a i (pivot k)) ≡ delta octets i k
-      go i k h l (yes e) = ap (λ (z : ℕ). oct (cell L a z (pivot k))) e ∙ ap oct (held .stepped .one k l) ∙ oct-one ∙ sym (ap (λ (z : ℕ). delta octets z k) e ∙ delta-self octets k)
-      go i k h l (no n) = ap oct (off (decLt k i)) ∙ oct-zero ∙ sym (delta-other octets i k n)
+      zeros : (b : ℕ → Octet) → ((c : Col L) → lin octets r b (cut L (symbols L a)) c ≡ 𝟘) → (n k : ℕ) → k < n → k < r → b k ≡ 𝟘
+      zeros b v zero k h l = absurd (omega arith)
+      zeros b v (suc n) k h l = last (zeros b v n)
         where
-          off : Dec (k < i) → cell L a i (pivot k) ≡ 0
-          off (yes b) = held .stepped .off i h k (omega arith) b
-          off (no b) = held .later i k (omega arith) l
+          last : ((j : ℕ) → j < n → j < r → b j ≡ 𝟘) → b k ≡ 𝟘
+          last z = sym (total-ext octets r (λ i q. term i q (decLt i k) (ℕ-discrete i k)) ∙ total-delta octets r k b l) ∙ v (pivot k, s .column k l)
+            where
+              term : (i : ℕ) → i < r → Dec (i < k) → Dec (i ≡ k) → b i ⊗ oct (cell L a i (pivot k)) ≡ b i ⊗ delta octets i k
+              term i q (yes x) e = ap (λ (y : Octet). y ⊗ oct (cell L a i (pivot k))) (z i (omega arith) q) ∙ zero-mul octets (oct (cell L a i (pivot k)))
+                  ∙ sym (ap (λ (y : Octet). y ⊗ delta octets i k) (z i (omega arith) q) ∙ zero-mul octets (delta octets i k))
+              term i q (no x) (yes e) = ap (λ (y : Octet). b i ⊗ y)
+                  (ap (λ (y : ℕ). oct (cell L a y (pivot k))) e ∙ ap oct (s .one k l) ∙ oct-one ∙ sym (ap (λ (y : ℕ). delta octets y k) e ∙ delta-self octets k))
+              term i q (no x) (no e) = ap (λ (y : Octet). b i ⊗ y)
+                  (ap oct (s .off i q k (omega (arith, e))) ∙ oct-zero ∙ sym (delta-other octets i k e))
 
-  clean : (i : ℕ) → r ≤ i → i < M → (t : ℕ) → t < T → oct (cell T d i t) ≡ 𝟘
-  clean i h l t b = ap oct (held .stepped .symbol-gone i h l t b) ∙ oct-zero
-
-  module _ {S : System ℕ} (holds : Holds M L T S a d) where
-    pub answer-shortfall : ShortfallBytes L T S (L - r)
-    answer-shortfall = record { lacks = shortfall octets L T (inOctets S) end r reduced (holds .to) (holds .back) }
-
-    pub answer-open : OctetSymbols T S → 0 < T → r < L → OpenBytes L T S
-    answer-open small pos h = open-bytes L T S small (two-fit octets L T (inOctets S) end r reduced (holds .to) (holds .back) clean h pos)
-
-    -- as many held as columns: the set has the symbol of held row k in the column of its pivot
-    pub answer-solved : (out : List ℕ) → OctetSymbols T S → Bytes out → L * T ≤ length out → r ≡ L → Gathered T r pivot d out
-        → SolvedBytes L T S (take (L * T) out)
-    unfolding reduced
-    answer-solved out small bo long e g = solved-bytes L T S small (take (L * T) out) block
-        (solved-by octets L T (inOctets S) end r reduced (holds .to) (holds .back) clean e (symbols T (take (L * T) out))
-        (λ k h t q. ap oct (getD-take (L * T) out (pivot k * T + t) 0 (cell-lt T L (pivot k) t (held .stepped .column k h) q) ∙ g .at k h t q)))
+  module _ {T : ℕ} {S : System ℕ} (h : Holds r L T S a d) where
+    pub stepped-shortfall : ShortfallBytes L T S (L - r)
+    unfolding equation
+    stepped-shortfall = record { lacks = record { rank = r; most = most; less = (let q : r ≤ L = rank-at-most s in omega arith) } }
       where
-        go : (i : ℕ) → Dec (i < L * T) → getD (take (L * T) out) i 0 < 256
-        go i (yes h) = rw (getD-take (L * T) out i 0 h) (bo i)
-        go i (no h) = rw (List·getD-eq-default (take (L * T) out) 0 {n = i} (let q = length-take-le (L * T) out long in omega arith)) (omega arith)
+        up : Within octets r (cut L (symbols L a)) (S .count) (cut L (inOctets S .coef))
+        up i l = span-pull octets (λ (c : Col L). inl c) (h .to i l)
 
-        block : Block L T (take (L * T) out)
-        block = record { size = length-take-le (L * T) out long; bytes = λ i. go i (decLt i (L * T)) }
+        down : Within octets (S .count) (cut L (inOctets S .coef)) r (cut L (symbols L a))
+        down i l = span-pull octets (λ (c : Col L). inl c) (h .back i l)
 
--- ---- the symbols go to their columns, one after the other
+        most : MostIndependent octets (S .count) (cut L (inOctets S .coef)) r
+        most = most-of-span octets L (S .count) r (inOctets S .coef) (cut L (symbols L a)) free up down
 
-pub gather-none : (T : ℕ) (pivot : ℕ → ℕ) (d out : List ℕ) → Gathered T 0 pivot d out
-gather-none T pivot d out = record { at = λ k h. absurd (omega arith) }
+    -- ---- the verdict
 
-pub gather-more : {L T r n : ℕ} {pivot : ℕ → ℕ} {d out out₁ : List ℕ} → Columns L r pivot → n < r → Gathered T n pivot d out
-    → RowCopied T (pivot n) n d out out₁ → Gathered T (n + 1) pivot d out₁
-gather-more {L} {T} {r} {n} {pivot} {d} {out} {out₁} columns h g s = record { at = λ k l t q. go k l t q (ℕ-discrete k n) }
+    -- fewer than columns: they can be met, and leave something open
+    pub stepped-open : OctetSymbols T S → 0 < T → r < L → OpenBytes L T S
+    stepped-open small pos short = go (answer-bytes pos small)
+      where
+        go : AnswerBytes L T S → OpenBytes L T S
+        go (contradicted-bytes c) = let m = held-fit T s in absurd (c .none (m .0) (m .1) (held-fits (m .0) h small (m .2)))
+        go (settled-bytes o b z) = absurd (let e : 0 ≡ L - r = shortfall-bytes-once z stepped-shortfall in omega arith)
+        go (left-open-bytes n o z p) = o
+
+    -- as many as columns: a set that fits is the only one
+    pub stepped-solved : (o : List ℕ) → OctetSymbols T S → 0 < T → L ≤ r → Block L T o → FitsBytes L T (storedSystem r L T a d) o → SolvedBytes L T S o
+    stepped-solved o small pos full b f =
+        let e : L - r ≡ 0 = omega arith in
+        fits-single pos small (rw e at stepped-shortfall) b (held-fits o h small f)
+
+-- ---- the out store
+
+-- its first L symbols are a set of their own
+pub front-block : (L T : ℕ) (o : List ℕ) → Bytes o → L * T ≤ length o → Block L T (take (L * T) o)
+front-block L T o bo long = record { size = length-take-le (L * T) o long; bytes = λ i. go i (decLt i (L * T)) }
   where
-    go : (k : ℕ) → k < n + 1 → (t : ℕ) → t < T → Dec (k ≡ n) → cell T out₁ (pivot k) t ≡ cell T d k t
-    go k l t q (yes e) = ap (λ (z : ℕ). cell T out₁ (pivot z) t) e ∙ s .part t q ∙ ap (λ (z : ℕ). cell T d z t) (sym e)
-    go k l t q (no m) = row-other (pivot n) s (pivot k) (λ e. m (columns .once k n (omega arith) h e)) t q ∙ g .at k (omega arith) t q
+    go : (i : ℕ) → Dec (i < L * T) → getD (take (L * T) o) i 0 < 256
+    go i (yes h) = rw (getD-take (L * T) o i 0 h) (bo i)
+    go i (no h) = rw (List·getD-eq-default (take (L * T) o) 0 {n = i} (let q = length-take-le (L * T) o long in omega arith)) (omega arith)
 
--- and no place of the out store past the L symbols changes
-pub gather-only : {L T r n : ℕ} {pivot f : ℕ → ℕ} {out out₁ : List ℕ} → Columns L r pivot → n < r → Written f out out₁ (pivot n * T) T
-    → OnlyBelow (L * T) out out₁
-gather-only {L} {n = n} {pivot = pivot} columns h s = only-row (pivot n) L (columns .below n h) s
+pub front-fits : {L T : ℕ} {S : System ℕ} (o : List ℕ) → FitsBytes L T S o → FitsBytes L T S (take (L * T) o)
+front-fits {L} {T} {S} o f = record {
+  meets = λ i h t l. sum-same L (λ c q. ap (times (S .coef i c)) (getD-take (L * T) o (c * T + t) 0 (cell-lt T L c t q l))) ∙ f .meets i h t l;
+}
 
 -- solved settles the whole out store: the set in front, and what was there past it
 pub out-once : {L T : ℕ} {S : System ℕ} {out o₁ o₂ : List ℕ} → SolvedBytes L T S (take (L * T) o₁) → SolvedBytes L T S (take (L * T) o₂)

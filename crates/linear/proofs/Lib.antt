@@ -15,7 +15,10 @@ pub mod Octets
 pub mod Bytes
 pub mod AnswersBytes
 pub mod Growth
+pub mod Joined
 pub mod Rows
+pub mod Behind
 pub mod Keeping
 pub mod Elimination
+pub mod Back
 pub mod Finish

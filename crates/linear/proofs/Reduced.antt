@@ -96,13 +96,6 @@ module _ (K : Field) where
         go : (f : ℕ → ℕ) × ((c : ℕ) → c < L → (f c < r) × (pivot (f c) ≡ c)) → L ≤ r
         go (f, h) = pigeon K L r f (λ c l. (h c l) .0) (λ i k hi hk e. sym ((h i hi) .1) ∙ ap pivot e ∙ (h k hk) .1)
 
-    -- the set has a pivot's symbol in its column
-    pub solution-pivot : (k : ℕ) → k < r → (t : ℕ) → solution (pivot k) t ≡ R .byte k t
-    unfolding solution spread-out
-    solution-pivot k h t =
-        total-ext K r (λ j l. ap (λ (x : F). x ⊗ R .byte j t) (delta-apart K pivot k j (pivot-once k j h l) ∙ delta-sym K k j) ∙ mul-comm (delta K j k) (R .byte j t))
-        ∙ total-delta K r k (λ j. R .byte j t) h
-
     -- Where every column has a pivot, each row is 1 at its own and 0 elsewhere: a set that fits is what the symbols say.
     module _ (all : (c : ℕ) → c < L → (k : ℕ) × (k < r) × (pivot k ≡ c)) where
       unit-row : (k c : ℕ) → k < r → c < L → R .coef k c ≡ delta K c (pivot k)
@@ -208,20 +201,6 @@ module _ (K : Field) where
               → Same L T D (solution L T R r red)
           go D f (inl (c, l, free)) = absurd (let h : r < L = free-lt L T R r red c l free in omega arith)
           go D f (inr all) = fits-once L T R r red all D (solution L T R r red) (fits-follows K L T to f) (solution-fits L T R r red clean)
-
-      -- a set that has each pivot's symbol in its column solves the system, if each column has a pivot
-      pub solved-by : r ≡ L → (C : Symbols F) → ((k : ℕ) → k < r → (t : ℕ) → t < T → C (red .pivot k) t ≡ R .byte k t) → Solved K L T S C
-      solved-by e C h = go (free-or-all L T R r red)
-        where
-          go : ((c : ℕ) × (c < L) × Free L T R r red c) ⊎ ((c : ℕ) → c < L → (k : ℕ) × (k < r) × (red .pivot k ≡ c)) → Solved K L T S C
-          go (inl (c, l, free)) = absurd (let q : r < L = free-lt L T R r red c l free in omega arith)
-          go (inr all) = solved-same K L T same (solved e)
-            where
-              at′ : (c t : ℕ) → t < T → (k : ℕ) × (k < r) × (red .pivot k ≡ c) → solution L T R r red c t ≡ C c t
-              at′ c t q (k, l, f) = ap (λ (x : ℕ). solution L T R r red x t) (sym f) ∙ solution-pivot L T R r red k l t ∙ sym (h k l t q) ∙ ap (λ (x : ℕ). C x t) f
-
-              same : Same L T (solution L T R r red) C
-              same = record { at = λ c l t q. at′ c t q (all c l) }
 
       pub two-fit : r < L → 0 < T → Open K L T S
       two-fit h pos = go (free-or-all L T R r red)

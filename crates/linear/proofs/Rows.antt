@@ -15,10 +15,10 @@ use Rattle.field.proofs.Laws.{zero-times, one-times}
 use Rattle.field.proofs.Writing.{written-as}
 use Rattle.linear.specs.Field.{Field}
 use Rattle.linear.specs.Index.{cut, update}
-use Rattle.linear.specs.RowOps.{Added, Scaled, Swapped}
+use Rattle.linear.specs.RowOps.{Added, Scaled}
 use Rattle.linear.specs.Octets.{octets, Octet, oct}
 use Rattle.linear.specs.Bytes.{Bytes, cell, symbols}
-use Rattle.linear.specs.Rows.{RowAdded, RowTimes, RowCopied, RowCleared, OnlyBelow}
+use Rattle.linear.specs.Rows.{RowAdded, RowTimes, RowCopied, OnlyBelow}
 use Rattle.linear.proofs.Field.{add-zero, zero-mul}
 use Rattle.linear.proofs.Index.{update-same, update-other}
 use Rattle.linear.proofs.Octets.{oct-one, oct-plus, oct-times}
@@ -28,18 +28,14 @@ infixl 60 _⊕_
 infixl 70 _⊗_
 -- ---- what stands where afterwards
 
--- every other row is as it was, also while only n entries of row i are written
-pub row-other-part : {f : ℕ → ℕ} {xs ys : List ℕ} {n w : ℕ} (i : ℕ) → n ≤ w → Written f xs ys (i * w) n → (k : ℕ) → k ≢ i → (c : ℕ) → c < w
+-- every other row is as it was
+pub row-other : {f : ℕ → ℕ} {xs ys : List ℕ} {w : ℕ} (i : ℕ) → Written f xs ys (i * w) w → (k : ℕ) → k ≢ i → (c : ℕ) → c < w
     → cell w ys k c ≡ cell w xs k c
-row-other-part {f} {xs} {ys} {n} {w} i b s k ne c h = go (decLt k i)
+row-other {f} {xs} {ys} {w} i s k ne c h = go (decLt k i)
   where
     go : Dec (k < i) → cell w ys k c ≡ cell w xs k c
     go (yes l) = s .low (k * w + c) (omega (arith, mul-le-mul-right w l))
     go (no l) = let q : i < k = omega arith in s .high (k * w + c) (omega (arith, mul-le-mul-right w q))
-
-pub row-other : {f : ℕ → ℕ} {xs ys : List ℕ} {w : ℕ} (i : ℕ) → Written f xs ys (i * w) w → (k : ℕ) → k ≢ i → (c : ℕ) → c < w
-    → cell w ys k c ≡ cell w xs k c
-row-other i s = row-other-part i (omega arith) s
 
 -- octets stay octets
 pub bytes-written : {f : ℕ → ℕ} {xs ys : List ℕ} {at n : ℕ} → Bytes xs → ((k : ℕ) → k < n → f k < 256) → Written f xs ys at n → Bytes ys
@@ -54,41 +50,10 @@ bytes-written {f} {xs} {ys} {at} {n} b small s x = go (decLt x at) (decLt x (at 
         let b : f (x - at) < 256 = small (x - at) (omega arith) in
         rw (← e, v) b
 
--- ---- a factor 0 adds nothing, a factor 1 adds the row or leaves it, and 0 and a row is the row
-
--- the row is already what it should become
-pub row-same : {f : ℕ → ℕ} {w : ℕ} {xs : List ℕ} (i : ℕ) → ((c : ℕ) → c < w → cell w xs i c ≡ f c) → Written f xs xs (i * w) w
-row-same i e = record { size = refl; part = e; low = λ k h. refl; high = λ k h. refl }
-
-pub row-added-none : {w f : ℕ} (i k : ℕ) {xs : List ℕ} → f ≡ 0 → RowAdded w i k f xs xs
-row-added-none {w} {f} i k {xs} e =
-    row-same i (λ c h. sym (ap (λ (x : ℕ). plus (cell w xs i c) (times x (cell w xs k c))) e ∙ ap (plus (cell w xs i c)) (zero-times (cell w xs k c)) ∙ xor-zero-r (cell w xs i c)))
-
-pub row-times-one : {w f : ℕ} (i : ℕ) {xs : List ℕ} → Bytes xs → f ≡ 1 → RowTimes w i f xs xs
-row-times-one {w} {f} i {xs} b e = row-same i (λ c h. sym (ap (λ (x : ℕ). times x (cell w xs i c)) e ∙ one-times (cell w xs i c) (b _)))
-
 -- a sum of two rows, as a sum with the row times 1
 pub row-added-once : {w : ℕ} (i k : ℕ) {xs ys : List ℕ} → Bytes xs → Written (λ c. plus (cell w xs i c) (cell w xs k c)) xs ys (i * w) w
     → RowAdded w i k 1 xs ys
 row-added-once {w} i k {xs} b s = written-as s (λ c h. ap (plus (cell w xs i c)) (sym (one-times (cell w xs k c) (b _))))
-
--- added to a row that is 0, a row is copied
-pub copied-by-adding : {w : ℕ} (i k : ℕ) {xs ys : List ℕ} → ((c : ℕ) → c < w → cell w xs i c ≡ 0)
-    → Written (λ c. plus (cell w xs i c) (cell w xs k c)) xs ys (i * w) w → RowCopied w i k xs xs ys
-copied-by-adding {w} i k {xs} z s = written-as s (λ c h. ap (λ (x : ℕ). plus x (cell w xs k c)) (z c h) ∙ xor-zero-l (cell w xs k c))
-
--- added to a row that is the same, it makes it 0
-pub cleared-by-adding : {w : ℕ} (i k : ℕ) {xs ys : List ℕ} → ((c : ℕ) → c < w → cell w xs k c ≡ cell w xs i c)
-    → Written (λ c. plus (cell w xs i c) (cell w xs k c)) xs ys (i * w) w → RowCleared w i xs ys
-cleared-by-adding {w} i k {xs} e s = written-as s (λ c h. ap (plus (cell w xs i c)) (e c h) ∙ xor-self (cell w xs i c))
-
--- row k added to row i, which is 0, and then row i to row k: row k went to place i and left 0
-pub moved-by-adding : {w : ℕ} (i k : ℕ) {xs ys zs : List ℕ} → i ≢ k → ((c : ℕ) → c < w → cell w xs i c ≡ 0)
-    → Written (λ c. plus (cell w xs i c) (cell w xs k c)) xs ys (i * w) w
-    → Written (λ c. plus (cell w ys k c) (cell w ys i c)) ys zs (k * w) w → RowCopied w i k xs xs ys × RowCleared w k ys zs
-moved-by-adding {w} i k {xs} {ys} ne z s u =
-    let copied : RowCopied w i k xs xs ys = copied-by-adding i k z s in
-    (copied, cleared-by-adding k i (λ c h. copied .part c h ∙ sym (row-other i s k (λ e. ne (sym e)) c h)) u)
 
 -- ---- nothing changed past a place
 
@@ -150,15 +115,3 @@ module _ {w : ℕ} {xs ys : List ℕ} where
     row = λ c. ap oct (s .part (c .0) (c .1)) ∙ oct-times f (cell w xs i (c .0));
     others = λ j h q c. ap oct (row-other i s j q (c .0) (c .1));
   }
-
--- row k goes to place i, where there was 0, and leaves 0: the two change places
-pub row-moved : {w : ℕ} {xs ys zs : List ℕ} (n i k : ℕ) → i < n → k < n → i ≢ k → ((c : ℕ) → c < w → cell w xs i c ≡ 0)
-    → RowCopied w i k xs xs ys → RowCleared w k ys zs
-    → Swapped octets n i k (cut w (symbols w xs)) (cut w (symbols w zs))
-row-moved {w} {xs} {ys} {zs} n i k hi hk ne z s u = record {
-  first-below = hi;
-  second-below = hk;
-  first = λ c. ap oct (row-other k u i ne (c .0) (c .1) ∙ s .part (c .0) (c .1));
-  second = λ c. ap oct (u .part (c .0) (c .1) ∙ sym (z (c .0) (c .1)));
-  others = λ j h p q c. ap oct (row-other k u j q (c .0) (c .1) ∙ row-other i s j p (c .0) (c .1));
-}

@@ -11,3 +11,4 @@ pub mod Octets
 pub mod Bytes
 pub mod Rows
 pub mod Elimination
+pub mod Back

@@ -5,7 +5,7 @@ use mathlib.Core.Path.{_≡_}
 use mathlib.Core.Logic.{_⊎_, inl, inr}
 use Prim.Native.Nat.{ℕ, _+_, _<_}
 use Rattle.linear.specs.Field.{Field}
-use Rattle.linear.specs.Index.{Col, cut}
+use Rattle.linear.specs.Index.{Col, ahead, cut}
 use Rattle.linear.specs.Total.{total}
 use Rattle.linear.specs.Span.{Within}
 use Rattle.linear.specs.Independent.{MostIndependent}
@@ -15,6 +15,10 @@ pub record System (F : Type 0) : Type 0 where
   pub count : ℕ
   pub coef : ℕ → ℕ → F
   pub byte : ℕ → ℕ → F
+
+-- the sum of two systems: the equations of S, and those of R after them
+abbrev pub joined : {F : Type 0} → System F → System F → System F
+joined S R = record { count = S .count + R .count; coef = ahead (S .count) (S .coef) (R .coef); byte = ahead (S .count) (S .byte) (R .byte) }
 
 -- the entries of a set of symbols: symbol, place in the symbol
 abbrev pub Symbols : Type 0 → Type 0
@@ -29,9 +33,13 @@ pub record SameEquation {F : Type 0} (L T : ℕ) (S : System F) (i : ℕ) (R : S
   pub coefs : (c : ℕ) → c < L → S .coef i c ≡ R .coef k c
   pub bytes : (t : ℕ) → t < T → S .byte i t ≡ R .byte k t
 
+-- equation i of S is an equation of R
+abbrev pub OneOf : {F : Type 0} (L T : ℕ) (S : System F) (i : ℕ) (R : System F) → Type 0
+OneOf L T S i R = (k : ℕ) × (k < R .count) × SameEquation L T S i R k
+
 -- each equation of S is an equation of R: neither order nor repetition counts
 abbrev pub Included : {F : Type 0} (L T : ℕ) (S R : System F) → Type 0
-Included L T S R = (i : ℕ) → i < S .count → (k : ℕ) × (k < R .count) × SameEquation L T S i R k
+Included L T S R = (i : ℕ) → i < S .count → OneOf L T S i R
 
 -- an equation as one vector: L coefficients and T bytes
 unfoldable pub equation : {F : Type 0} (L T : ℕ) → System F → ℕ → Col L ⊎ Col T → F

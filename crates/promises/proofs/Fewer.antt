@@ -1,30 +1,31 @@
 -- Fewer arrivals than source symbols are never solved, what is open takes at least its shortfall of arrivals more, and no arrivals are open.
 -- Assumes nothing.
 use mathlib.Core.Path.{_≡_, refl, sym, ap, _∙_, subst}
-use mathlib.Core.Logic.{_≢_, _⊎_, inl, inr}
+use mathlib.Core.Logic.{_≢_}
 use mathlib.Core.List.{List, [], _++_}
 use Prim.Native.Nat.{ℕ, _+_, _-_, _*_, _≤_, _<_}
 use native.Mathlib.Decide.{decLt}
 use native.Mathlib.Omega.{arith}
 use lib.ListN.{length, getD, replicate, length-replicate, getD-replicate, length-append, List·getD-append, List·getD-eq-default}
+use lib.Seq.{getD-append-add}
 use Rattle.field.specs.Octet.{times}
 use Rattle.field.proofs.Laws.{times-zero}
 use Rattle.field.proofs.Sums.{sum-zero}
 use Rattle.headers.specs.Row.{lOf}
 use Rattle.headers.specs.declared.row.Row.{Row}
+use Rattle.linear.specs.System.{System, SameEquation, OneOf, Included, joined}
 use Rattle.linear.specs.Octets.{octets}
 use Rattle.linear.specs.Bytes.{ShortfallBytes}
-use Rattle.linear.proofs.Growth.{shortfall-floor}
+use Rattle.linear.proofs.Joined.{one-then, included-then, included-first, included-second, included-both, shortfall-floor}
 use Rattle.linear.proofs.Independent.{chosen-once}
 use Rattle.linear.proofs.Kernel.{pigeon}
 use Rattle.encoding.specs.Encoded.{combined}
 use Rattle.elimination.specs.declared.verdict.Verdict.{Verdict}
 use Rattle.elimination.specs.declared.verdict.Verdict.the-variants.{Solved, Contradiction, Open}
-use Rattle.solver.specs.System.{fixed, equations, sentRow, rowOf, systemOf}
+use Rattle.solver.specs.System.{equations, hdpcRows, sentRow, arrivalRows, fixedWith, systemOf}
 use Rattle.solver.specs.declared.solver.Solution.the-variants.{Given}
-use Rattle.solver.proofs.Holding.{row-arrival}
+use Rattle.solver.proofs.Groups.{has-fixed, has-arrivals}
 use Rattle.promises.specs.Calls.{Call, Fitting, MostRows}
-use Rattle.promises.proofs.Equations.{fixed-row}
 use Rattle.promises.proofs.Exactly.{sound, contradiction-none, solved-shortfall, solved-rows}
 
 -- independent rows are at most as many as there are rows
@@ -53,20 +54,35 @@ module _ {v : List ℕ} {r : Row} {k t : ℕ} {es xs o o₁ : List ℕ} where
 -- ---- n arrivals more
 
 module _ (v : List ℕ) (r : Row) (k t : ℕ) (es xs gs ys : List ℕ) where
-  -- the rows of the first arrivals stay what they are, whatever the symbols
-  old-row : (i c : ℕ) → fixed r k ≤ i → i < fixed r k + length es → rowOf v r k (es ++ gs) i c ≡ rowOf v r k es i c
-  old-row i c l h =
-      row-arrival r v k t (es ++ gs) ys i c l ∙ ap (λ (e : ℕ). sentRow v r k e c) (List·getD-append es gs 0 (i - fixed r k) (omega arith))
-      ∙ sym (row-arrival r v k t es xs i c l)
+  abbrev S : System ℕ
+  S = systemOf r v k t es xs
 
-  lowered : {s u : ℕ} → ShortfallBytes (lOf r) t (systemOf r v k t es xs) s → ShortfallBytes (lOf r) t (systemOf r v k t (es ++ gs) ys) u → s ≤ length gs + u
-  lowered = shortfall-floor (length gs) (λ q. fixed r k + length es + q) (λ i h. go i h (decLt i (fixed r k)) (decLt i (fixed r k + length es)))
+  abbrev N : System ℕ
+  N = arrivalRows v r k t gs ys
+
+  -- where an ESI is the same, so is the row
+  same-row : (fs us hs zs : List ℕ) (i j : ℕ) → getD fs i 0 ≡ getD hs j 0 → SameEquation (lOf r) 0 (arrivalRows v r k t fs us) i (arrivalRows v r k t hs zs) j
+  same-row fs us hs zs i j e = record { coefs = λ c _. ap (λ (x : ℕ). sentRow v r k x c) e; bytes = λ b l. absurd (omega arith) }
+
+  -- the arrivals are the first ones and the new ones, whatever the symbols
+  appended : Included (lOf r) 0 (arrivalRows v r k t (es ++ gs) ys) (joined S N)
+  appended i h = go (decLt i (length es))
     where
-      go : (i : ℕ) → i < equations r k (length (es ++ gs)) → Dec (i < fixed r k) → Dec (i < fixed r k + length es)
-          → ((q : ℕ) × (q < equations r k (length es)) × ((c : ℕ) → c < lOf r → rowOf v r k (es ++ gs) i c ≡ rowOf v r k es q c)) ⊎ ((q : ℕ) × (q < length gs) × (i ≡ fixed r k + length es + q))
-      go i h (yes q) l = inl (i, omega arith, λ c _. fixed-row v r k t (es ++ gs) es i c q)
-      go i h (no q) (yes l) = inl (i, l, λ c _. old-row i c (omega arith) l)
-      go i h (no q) (no l) = inr (i - (fixed r k + length es), omega (arith, length-append es gs), omega arith)
+      go : Dec (i < length es) → OneOf (lOf r) 0 (arrivalRows v r k t (es ++ gs) ys) i (joined S N)
+      go (yes l) =
+          one-then (same-row (es ++ gs) ys es xs i i (List·getD-append es gs 0 i l))
+          (included-then (has-arrivals (hdpcRows v r) r v k t es xs (lOf r) 0) (included-first (lOf r) 0 S N) i l)
+      go (no l) =
+          let j = i - length es in
+          let q : i ≡ length es + j = omega arith in
+          one-then (same-row (es ++ gs) ys gs ys i j (ap (λ (x : ℕ). getD (es ++ gs) x 0) q ∙ getD-append-add es gs j 0))
+          (included-second (lOf r) 0 S N j (omega (arith, length-append es gs)))
+
+  lowered : {s u : ℕ} → ShortfallBytes (lOf r) t S s → ShortfallBytes (lOf r) t (systemOf r v k t (es ++ gs) ys) u → s ≤ length gs + u
+  lowered =
+      let Z = fixedWith (hdpcRows v r) v r k in
+      shortfall-floor S N (included-both (lOf r) 0 Z (arrivalRows v r k t (es ++ gs) ys)
+      (included-then (has-fixed (hdpcRows v r) r v k t es xs (lOf r) 0) (included-first (lOf r) 0 S N)) appended)
 
 module _ {v : List ℕ} {r : Row} {k t : ℕ} {es xs o o₁ p p₁ : List ℕ} {s : ℕ} (gs ys : List ℕ) (c : Call r v k t es xs o o₁ (Given (Open s))) where
   -- n arrivals more, with whatever symbols, lower the shortfall by n at most

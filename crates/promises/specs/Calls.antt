@@ -2,7 +2,7 @@
 -- Assumes nothing.
 use mathlib.Core.Path.{_≡_}
 use mathlib.Core.Logic.{_≢_}
-use mathlib.Core.List.{List}
+use mathlib.Core.List.{List, []}
 use Prim.Native.Nat.{ℕ, _*_, _≤_, _<_}
 use lib.ListN.{length, getD, take}
 use Rattle.field.specs.declared.refusal.Answer.the-variants as Plains
@@ -11,12 +11,12 @@ use Rattle.headers.specs.Shift.{shifted}
 use Rattle.headers.specs.declared.row.Row.{Row}
 use Rattle.constraints.specs.Hdpc.{hdpcOf}
 use Rattle.constraints.specs.Ldpc.{ldpcOf}
-use Rattle.linear.specs.Bytes.{cell, Block}
+use Rattle.linear.specs.Bytes.{cell, Block, inOctets}
 use Rattle.linear.specs.Index.{cut}
 use Rattle.linear.specs.Independent.{MostIndependent}
-use Rattle.linear.specs.Octets.{octets, oct}
+use Rattle.linear.specs.Octets.{octets}
 use Rattle.encoding.specs.Encoded.{Encodes, combined, encoded}
-use Rattle.solver.specs.System.{Solves, equations, rowOf}
+use Rattle.solver.specs.System.{Solves, equations, systemOf}
 use Rattle.solver.specs.declared.solver.Solution.{Solution}
 
 -- a call of `solve`: ESIs es, symbols xs, the out store o before and o₁ after, and the answer; whatever the two scratch stores were
@@ -79,9 +79,9 @@ pub record Several (v : List ℕ) (r : Row) (k t : ℕ) (es xs : List ℕ) : Typ
   pub second-fits : Fitting v r k t es xs second
   pub differ : first ≢ second
 
--- the most rows of the call's system that are independent are n
+-- the most rows of the call's system that are independent are n; its symbols count for nothing, so none are given
 abbrev pub MostRows : List ℕ → Row → ℕ → List ℕ → ℕ → Type 0
-MostRows v r k es n = MostIndependent octets (equations r k (length es)) (cut (lOf r) (λ i c. oct (rowOf v r k es i c))) n
+MostRows v r k es n = MostIndependent octets (equations r k (length es)) (cut (lOf r) (inOctets (systemOf r v k 0 es []) .coef)) n
 
 -- ---- encoding
 

@@ -1,4 +1,4 @@
--- Document 01, 'Solver and symbols': the system of a call, row by row from RFC 6330, when a call is refused, and what it leaves.
+-- Document 01, 'Solver and symbols': the system of a call, group by group from RFC 6330, when a call is refused, and what it leaves.
 -- Assumes nothing.
 use mathlib.Core.Path.{_≡_}
 use mathlib.Core.Bool.{Bool, not}
@@ -7,7 +7,6 @@ use Prim.Native.Nat.{ℕ, _+_, _-_, _*_, _≤_, _<_}
 use lib.Dec.{eqb, ltb}
 use lib.ListN.{length, getD}
 use Rattle.field.specs.Answer.{Outcome, given, refused, unless, numberOf}
-use Rattle.field.specs.Choice.{pick}
 use Rattle.field.specs.Runs.{Written}
 use Rattle.headers.specs.Row.{obeys, lOf}
 use Rattle.headers.specs.Shift.{shifted}
@@ -15,7 +14,7 @@ use Rattle.headers.specs.declared.row.Row.{Row}
 use Rattle.constraints.specs.Encoding.{encOf}
 use Rattle.constraints.specs.Hdpc.{hdpcOf}
 use Rattle.constraints.specs.Ldpc.{ldpcOf}
-use Rattle.linear.specs.System.{System}
+use Rattle.linear.specs.System.{System, joined}
 use Rattle.linear.specs.Bytes.{cell}
 use Rattle.elimination.specs.Verdict.{Means}
 use Rattle.solver.specs.Display.{anyLarge}
@@ -23,33 +22,57 @@ use Rattle.solver.specs.Order.{Sendable, isiRows, isiOf, placeOf}
 use Rattle.solver.specs.declared.solver.Solution.{Solution}
 use Rattle.solver.specs.declared.solver.Solution.the-variants.{Given, Refused}
 
--- S LDPC rows, H HDPC rows and K' - K padding rows
+-- ---- how many equations
+
+-- those that row and K fix: S LDPC, H HDPC and K' - K padding rows
 abbrev pub fixed : Row → ℕ → ℕ
 fixed r k = r .s + r .h + (r .kp - k)
 
--- M
+-- M: those, and one for each of n arrivals
 abbrev pub equations : Row → ℕ → ℕ → ℕ
 equations r k n = fixed r k + n
 
--- the row of an encoding symbol id (RFC 6330, 5.3.5.3), by its ISI (5.3.1)
+-- ---- the groups
+
+-- n rows f whose symbols are 0
+abbrev pub blankRows : ℕ → (ℕ → ℕ → ℕ) → System ℕ
+blankRows n f = record { count = n; coef = f; byte = λ i b. 0 }
+
+-- the LDPC rows (RFC 6330, 5.3.3.3)
+abbrev pub ldpcRows : Row → System ℕ
+ldpcRows r = blankRows (r .s) (ldpcOf r)
+
+-- the HDPC rows (5.3.3.3)
+abbrev pub hdpcRows : List ℕ → Row → System ℕ
+hdpcRows v r = blankRows (r .h) (hdpcOf v r)
+
+-- the padding, the ISIs K .. K' - 1 (5.3.1)
+abbrev pub paddingRows : List ℕ → Row → ℕ → System ℕ
+paddingRows v r k = blankRows (r .kp - k) (λ i. encOf v r (k + i))
+
+-- the row of an encoding symbol id (5.3.5.3), by its ISI (5.3.1)
 abbrev pub sentRow : List ℕ → Row → ℕ → ℕ → ℕ → ℕ
 sentRow v r k e c = encOf v r (shifted e k (r .kp)) c
 
--- row i: LDPC and HDPC (RFC 6330, 5.3.3.3), the padding ISIs K .. K' - 1, the arrivals (5.3.3.4)
-unfoldable pub rowOf : List ℕ → Row → ℕ → List ℕ → ℕ → ℕ → ℕ
-rowOf v r k es i c =
-    pick (ltb i (r .s)) (ldpcOf r i c)
-    (pick (ltb i (r .s + r .h)) (hdpcOf v r (i - r .s) c)
-    (pick (ltb i (fixed r k)) (encOf v r (k + (i - (r .s + r .h))) c)
-    (sentRow v r k (getD es (i - fixed r k) 0) c)))
+-- the arrivals (5.3.3.4): the ESIs es with the symbols xs of T octets
+abbrev pub arrivalRows : List ℕ → Row → ℕ → ℕ → List ℕ → List ℕ → System ℕ
+arrivalRows v r k t es xs = record { count = length es; coef = λ i. sentRow v r k (getD es i 0); byte = cell t xs }
 
--- its symbol: 0, and that of the arrival
-unfoldable pub byteOf : Row → ℕ → ℕ → List ℕ → ℕ → ℕ → ℕ
-byteOf r k t xs i b = pick (ltb i (fixed r k)) 0 (cell t xs (i - fixed r k) b)
+-- ---- their sum
 
--- the system of a call: row r, tables v, K, T, the ESIs es and the symbols xs
+-- what row, tables and K fix, with the group D in the HDPC rows' place: a system may take the H rows, or none
+abbrev pub fixedWith : System ℕ → List ℕ → Row → ℕ → System ℕ
+fixedWith D v r k = joined (joined (ldpcRows r) D) (paddingRows v r k)
+
+-- and the arrivals
+abbrev pub systemWith : System ℕ → Row → List ℕ → ℕ → ℕ → List ℕ → List ℕ → System ℕ
+systemWith D r v k t es xs = joined (fixedWith D v r k) (arrivalRows v r k t es xs)
+
+-- the system of a call, with the H rows: row r, tables v, K, T, the ESIs es and the symbols xs. Its count is M (`counted`)
 abbrev pub systemOf : Row → List ℕ → ℕ → ℕ → List ℕ → List ℕ → System ℕ
-systemOf r v k t es xs = record { count = equations r k (length es); coef = rowOf v r k es; byte = byteOf r k t xs }
+systemOf r v = systemWith (hdpcRows v r) r v
+
+-- ---- the stores
 
 -- rows of w octets in a store, one after the other: ys is xs, but that the n rows from row `from` on are f 0, f 1, ..
 pub record RowsLaid (w : ℕ) (f : ℕ → ℕ → ℕ) (xs ys : List ℕ) (from n : ℕ) : Type 0 where
@@ -87,6 +110,8 @@ pub record Admits (r : Row) (v : List ℕ) (k t : ℕ) (es xs a d o : List ℕ) 
   pub fillable : Fillable r v k t es xs a d
   pub t-low : 0 < t
   pub room-out : lOf r * t ≤ length o
+
+-- ---- the call
 
 -- refusal 8: stores of a, d and o octets, for n arrivals
 abbrev pub roomToSolve : Row → ℕ → ℕ → ℕ → ℕ → ℕ → ℕ → Outcome (Unit {0})

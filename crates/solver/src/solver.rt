@@ -6,6 +6,7 @@ ghost use Rattle.headers.specs.Row.{Obeys};
 ghost use Rattle.solver.specs.System.{Solves, roomToSolve, solvable};
 use crate::beneath::call;
 use crate::beneath::esis;
+use crate::beneath::sizes;
 use elimination::verdict::Verdict;
 use field::refusal::Answer;
 use field::refusal::Refusal;
@@ -23,8 +24,8 @@ fn room(r: Row, k: u32, t: u16, n: usize, rows: usize, values: usize, out: usize
     requires { ⌜ Obeys r × (k ≤ r .kp) × (n ≤ 65535) ⌝ }
     ensures { λ a. ⌜ done a ≡ roomToSolve r k t n rows values out ⌝ }
 {
-    let m = (r.s + r.h + (r.kp - k)) as usize + n;
-    let l = (r.kp + r.s + r.h) as usize;
+    let m = sizes::m(r, k, n);
+    let l = row::l(r) as usize;
     if rows < m * l {
         return Answer::Refused(Refusal::WrongLength);
     }

@@ -13,6 +13,7 @@ use headers::beneath::util;
 use headers::row::Row;
 use headers::transmission;
 use headers::transmission::ObjectTransmissionInformation;
+use solver::beneath::sizes;
 
 // Why not: a refusal of document 01, or what this program alone does not take.
 pub enum Stop {
@@ -95,7 +96,7 @@ fn screen_packets(bytes: &[u8], r: Row, k: u32, t: usize) -> Screened
     ensures { λ a. ⌜ screened a ≡ packetsScreen (now (bytes .entry)) r k t ⌝ }
 {
     let len = bytes.len();
-    let fixed = (r.s + r.h + (r.kp - k)) as usize;
+    let fixed = sizes::fixed(r, k);
     let fine = screen_length(len, t, fixed);
     let Screened::Passed = fine else {
         return fine;

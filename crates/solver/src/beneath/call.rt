@@ -6,8 +6,10 @@ ghost use Rattle.headers.specs.Row.{lOf};
 ghost use Rattle.elimination.specs.Verdict.{Means};
 ghost use Rattle.solver.specs.System.{Admits, equations, systemOf};
 use crate::beneath::filling;
-use elimination::beneath::finish;
+use crate::beneath::sizes;
+use elimination::beneath::solving;
 use elimination::verdict::Verdict;
+use headers::beneath::row;
 use headers::row::Row;
 
 pub fn run(
@@ -27,8 +29,8 @@ pub fn run(
     ensures { λ v. ⌜ Written (λ _. 0) (now (values .entry)) (now (values .exit)) 0 (equations r k (length (now (esis .entry))) * t) ⌝ }
 {
     let n = t as usize;
-    let m = (r.s + r.h + (r.kp - k)) as usize + esis.len();
-    let l = (r.kp + r.s + r.h) as usize;
+    let m = sizes::m(r, k, esis.len());
+    let l = row::l(r) as usize;
     filling::fill(rows, values, tables, esis, symbols, k, n, r);
-    finish::solve_stored(rows, values, out, m, l, n)
+    solving::solve_stored(rows, values, out, m, l, n)
 }

@@ -1,25 +1,22 @@
 -- `delivery::beneath::screen::screen_packets` meets its contract.
 -- Assumes nothing.
+use mathlib.Core.Path.{_≡_, ap, _∙_}
 use native.Mathlib.Omega.{arith}
 use Rattle.headers.proofs.Tests.{granted, denied}
 use lib.ListN.{length}
 use Rattle.solver.specs.System.{fixed}
+use Rattle.delivery.specs.Screen.{screened, lengthScreen}
 use Rattle.delivery.proofs.Screening.{all-passed, stopped-at, length-sound, other-block, one-block, packets-in}
 use borrow.Author.Needs.{needs}
 use Rattle.delivery.proofs.beneath.screen.screen_packets.Statement.{statement}
 use Rattle.delivery.proofs.beneath.screen.screen_packets.Tie as tie
 
-add-fixed : tie.Need-add-fixed
-add-fixed c = search needs
+-- what the screen of the length told, of the equations that row and K fix
+told : (c : tie.After-screen-length) → let a = c .before .before .before .args in screened (c .screen-length .result) ≡ lengthScreen (length (a .bytes .now)) (a .t) (fixed (a .r) (a .k))
+told c = let a = c .before .before .before .args in c .screen-length .ensures ∙ ap (lengthScreen (length (a .bytes .now)) (a .t)) (c .before .fixed .ensures)
 
-sub-fixed : tie.Need-sub-fixed
-sub-fixed c = search needs
-
-add-fixed-2 : tie.Need-add-fixed-2
-add-fixed-2 c = search needs
-
-cast-fixed : tie.Need-cast-fixed
-cast-fixed c = search needs
+fixed-requires : tie.Need-fixed-requires
+fixed-requires c κs = search needs
 
 screen-length-requires : tie.Need-screen-length-requires
 screen-length-requires c κs = search needs
@@ -31,38 +28,35 @@ enum-told-2 : tie.Need-enum-told-2
 enum-told-2 c = search needs
 
 returns : tie.Need-returns
-returns c = stopped-at (c .before .before .screen-length .result) (c .before .before .screen-length .ensures) _ _ (c .enum-told2 .given .1)
+returns c = stopped-at (c .before .before .screen-length .result) (told (c .before .before)) _ _ (c .enum-told2 .given .1)
 
 count-requires : tie.Need-count-requires
 count-requires c κs =
-    let s = c .before .before .before .before .before .before in
-    let l = length-sound (length (s .args .bytes .now)) (s .args .t) (fixed (s .args .r) (s .args .k)) (all-passed (c .before .before .screen-length .result) (c .before .before .screen-length .ensures) (c .enum-told .given .1)) in
+    let s = c .before .before .before .before .before in
+    let l = length-sound (length (s .args .bytes .now)) (s .args .t) (fixed (s .args .r) (s .args .k)) (all-passed (c .before .before .screen-length .result) (told (c .before .before)) (c .enum-told .given .1)) in
     (l .whole, s .pre .4)
 
 one-block-requires : tie.Need-one-block-requires
 one-block-requires c κs =
-    let s = c .before .before .before .before .before .before .before in
-    let l = length-sound (length (s .args .bytes .now)) (s .args .t) (fixed (s .args .r) (s .args .k)) (all-passed (c .before .before .before .screen-length .result) (c .before .before .before .screen-length .ensures) (c .before .enum-told .given .1)) in
+    let s = c .before .before .before .before .before .before in
+    let l = length-sound (length (s .args .bytes .now)) (s .args .t) (fixed (s .args .r) (s .args .k)) (all-passed (c .before .before .before .screen-length .result) (told (c .before .before .before)) (c .before .enum-told .given .1)) in
     (packets-in (s .args .t) (c .count .ensures) (l .full), s .pre .4, omega (arith, c .count .ensures, l .few))
 
 returns-2 : tie.Need-returns-2
 returns-2 c =
-    let s = c .before .before .before .before .before .before .before .before .before in
-    other-block (s .args .bytes .now) (s .args .r) (s .args .k) (s .args .t) (c .before .before .before .before .before .screen-length .result) (c .before .before .before .before .before .screen-length .ensures) (c .before .before .before .enum-told .given .1) (c .before .before .count .result) (c .before .before .count .ensures) (denied (c .before .one-block .result) (c .if1 .taken) (c .before .one-block .ensures))
+    let s = c .before .before .before .before .before .before .before .before in
+    other-block (s .args .bytes .now) (s .args .r) (s .args .k) (s .args .t) (c .before .before .before .before .before .screen-length .result) (told (c .before .before .before .before .before)) (c .before .before .before .enum-told .given .1) (c .before .before .count .result) (c .before .before .count .ensures) (denied (c .before .one-block .result) (c .if1 .taken) (c .before .one-block .ensures))
 
 returns-3 : tie.Need-returns-3
 returns-3 c =
-    let s = c .before .before .before .before .before .before .before .before .before in
-    one-block (s .args .bytes .now) (s .args .r) (s .args .k) (s .args .t) (c .before .before .before .before .before .screen-length .result) (c .before .before .before .before .before .screen-length .ensures) (c .before .before .before .enum-told .given .1) (c .before .before .count .result) (c .before .before .count .ensures) (granted (c .before .one-block .result) (c .if1 .left) (c .before .one-block .ensures))
+    let s = c .before .before .before .before .before .before .before .before in
+    one-block (s .args .bytes .now) (s .args .r) (s .args .k) (s .args .t) (c .before .before .before .before .before .screen-length .result) (told (c .before .before .before .before .before)) (c .before .before .before .enum-told .given .1) (c .before .before .count .result) (c .before .before .count .ensures) (granted (c .before .one-block .result) (c .if1 .left) (c .before .one-block .ensures))
 
 pub screen-packets-spec : {M : Type 1} → statement M
 screen-packets-spec =
     tie.close
     (tie.spec
-    add-fixed
-    sub-fixed
-    add-fixed-2
-    cast-fixed
+    fixed-requires
     screen-length-requires
     enum-told
     enum-told-2

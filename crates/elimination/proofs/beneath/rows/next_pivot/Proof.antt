@@ -9,13 +9,13 @@ use Rattle.elimination.proofs.beneath.rows.next_pivot.Statement.{statem
 use Rattle.elimination.proofs.beneath.rows.next_pivot.Tie as tie
 
 abbrev Inv-loop : tie.InvT-loop
-Inv-loop rows pivots start k r x₀ x = Passed rows pivots start k r x
+Inv-loop row pivots k r x₀ x = Passed row pivots k r x
 
 abbrev μ-loop : tie.MeasureT-loop
-μ-loop rows pivots start k r x₀ x = r - x
+μ-loop row pivots k r x₀ x = r - x
 
 loop-holds : tie.Need-loop-holds Inv-loop μ-loop
-loop-holds c = passed-none _ _ _ (c .pre .0)
+loop-holds c = passed-none _ _ (c .pre .0)
 
 mul-c : tie.Need-mul-c Inv-loop μ-loop
 mul-c c = search needs
@@ -25,9 +25,6 @@ shared-slice-read-c c = search needs
 
 cast-c : tie.Need-cast-c Inv-loop μ-loop
 cast-c c = omega (arith, c .shared-slice-known .given (c .before .before .loop .x))
-
-add-if1 : tie.Need-add-if1 Inv-loop μ-loop
-add-if1 c = omega (arith, c .before .before .before .pre .2 (c .before .before .loop .x) (c .before .loop-test .taken))
 
 shared-slice-read-if1 : tie.Need-shared-slice-read-if1 Inv-loop μ-loop
 shared-slice-read-if1 c = omega (arith, c .before .before .before .before .pre .2 (c .before .before .before .loop .x) (c .before .before .loop-test .taken))
@@ -57,7 +54,6 @@ next-pivot-spec =
     mul-c
     shared-slice-read-c
     cast-c
-    add-if1
     shared-slice-read-if1
     returns
     add-x

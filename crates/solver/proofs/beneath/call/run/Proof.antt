@@ -2,44 +2,30 @@
 -- Assumes nothing.
 use native.Mathlib.Omega.{arith}
 use Rattle.linear.proofs.Rows.{only, only-then}
-use Rattle.solver.specs.System.{systemOf}
-use Rattle.solver.proofs.Holding.{octet-symbols, holds}
+use Rattle.solver.specs.System.{hdpcRows, systemOf}
+use Rattle.solver.proofs.Groups.{octets-blank, octet-symbols}
+use Rattle.solver.proofs.Holding.{holds}
 use borrow.Author.Needs.{needs}
 use Rattle.solver.proofs.beneath.call.run.Statement.{statement}
 use Rattle.solver.proofs.beneath.call.run.Tie as tie
 
-add-m : tie.Need-add-m
-add-m c = search needs
+m-requires : tie.Need-m-requires
+m-requires c κs = let q = c .before .before .before .before .before .before .pre .fillable .sendable in (q .rules, q .k-high, q .few)
 
-sub-m : tie.Need-sub-m
-sub-m c = search needs
-
-add-m-2 : tie.Need-add-m-2
-add-m-2 c = search needs
-
-cast-m : tie.Need-cast-m
-cast-m c = search needs
-
-add-m-3 : tie.Need-add-m-3
-add-m-3 c = search needs
-
-add-l : tie.Need-add-l
-add-l c = search needs
-
-add-l-2 : tie.Need-add-l-2
-add-l-2 c = search needs
+l-requires : tie.Need-l-requires
+l-requires c κs = search needs
 
 cast-l : tie.Need-cast-l
 cast-l c = search needs
 
 fill-requires : tie.Need-fill-requires
-fill-requires c κs = (c .before .before .before .before .before .before .before .before .before .before .before .before .pre .fillable, omega arith)
+fill-requires c κs = (c .before .before .before .before .before .before .before .before .before .before .pre .fillable, omega arith)
 
 solve-stored-requires : tie.Need-solve-stored-requires
 solve-stored-requires c κs =
-    let s = c .before .before .before .before .before .before .before .before .before .before .before .before .before .before .before .before .before .before .before .before in
+    let s = c .before .before .before .before .before .before .before .before .before .before .before .before .before .before .before .before .before .before in
     let o = s .pre .fillable .sendable .rules in
-    search needs
+    rw (c .before .before .before .before .before .before .before .before .before .before .before .m .ensures, c .before .before .before .before .before .before .before .before .before .before .l .ensures) (search needs)
 
 same-length : tie.Need-same-length
 same-length c = search needs
@@ -52,31 +38,15 @@ same-length-3 c = search needs
 
 returns : tie.Need-returns
 returns c =
-    let s = c .before .before .before .before .before .before .before .before .before .before .before .before .before .before .before .before .before .before .before .before .before .before .before .before .before .before .before in
+    let s = c .before .before .before .before .before .before .before .before .before .before .before .before .before .before .before .before .before .before .before .before .before .before .before .before .before in
     let a = s .args in
-    let e = c .before .before .before .before .before .before .solve-stored .ensures in
+    let e = rw (c .before .before .before .before .before .before .before .before .before .before .before .before .before .before .before .before .before .before .m .ensures, c .before .before .before .before .before .before .before .before .before .before .before .before .before .before .before .before .before .l .ensures) at (c .before .before .before .before .before .before .solve-stored .ensures) in
     let f = c .before .before .before .before .before .before .before .before .before .before .before .before .before .before .fill .ensures in (
       e .answer (systemOf (a .r) (a .tables .now) (a .k) (a .t) (a .esis .now) (a .symbols .now))
-          (octet-symbols (a .r) (a .tables .now) (a .k) (a .t) (a .esis .now) (a .symbols .now) (λ x. omega (arith, c .before .before .before .before .before .before .before .before .before .before .before .before .before .before .before .before .before .before .before .before .before .before .before .before .shared-slice-known3 .given x)))
+          (octet-symbols (hdpcRows (a .tables .now) (a .r)) (a .r) (a .tables .now) (a .k) (a .t) (a .esis .now) (a .symbols .now) (octets-blank (a .t) _ _) (λ x. omega (arith, c .before .before .before .before .before .before .before .before .before .before .before .before .before .before .before .before .before .before .before .before .before .before .shared-slice-known3 .given x)))
           (holds (a .r) (a .tables .now) (a .k) (a .t) (a .esis .now) (a .symbols .now) (s .pre .fillable .sendable) (f .0) (f .1) (s .pre .fillable .all)),
       (only-then (only (f .0 .size) (f .0 .high)) (e .rows), only-then (only (f .1 .size) (f .1 .high)) (e .symbols)),
     )
 
 pub run-spec : {M : Type 1} → statement M
-run-spec =
-    tie.close
-    (tie.spec
-    add-m
-    sub-m
-    add-m-2
-    cast-m
-    add-m-3
-    add-l
-    add-l-2
-    cast-l
-    fill-requires
-    solve-stored-requires
-    same-length
-    same-length-2
-    same-length-3
-    returns)
+run-spec = tie.close (tie.spec m-requires l-requires cast-l fill-requires solve-stored-requires same-length same-length-2 same-length-3 returns)

@@ -1,0 +1,145 @@
+-- What the equations come to that were taken one after the other.
+-- Assumes nothing.
+use mathlib.Core.Path.{_≡_, refl, sym, ap, _∙_, subst}
+use mathlib.Core.Logic.{_⊎_, inl, inr}
+use mathlib.Core.List.{List}
+use Prim.Native.Nat.{ℕ, _+_, _-_, _*_, _≤_, _<_}
+use native.Mathlib.Nat.{mul-le-mul-right}
+use native.Mathlib.Omega.{arith}
+use native.Mathlib.Decide.{ℕ-discrete}
+use lib.ListN.{length, getD}
+use Rattle.field.specs.Runs.{Written}
+use Rattle.linear.specs.System.{System, SameEquation}
+use Rattle.linear.specs.Octets.{octets}
+use Rattle.linear.specs.Bytes.{Bytes, cell, storedSystem, OctetSymbols, FitsBytes, ContradictionBytes, ShortfallBytes}
+use Rattle.linear.specs.Rows.{RowCopied, OnlyBelow}
+use Rattle.linear.specs.Elimination.{Holds, Stepped, OneMore, alone}
+use Rattle.linear.proofs.Rows.{only-refl, only-past, only-trans, only-more, only-row}
+use Rattle.linear.proofs.Keeping.{holds-included, holds-trans, holds-more}
+use Rattle.linear.proofs.Elimination.{stepped-none, rank-at-most}
+use Rattle.linear.proofs.Finish.{stepped-open, stepped-shortfall}
+use Rattle.linear.proofs.System.{fits-follows}
+use Rattle.linear.proofs.Bytes.{fits-of-bytes, bytes-of-fits}
+use Rattle.linear.proofs.Growth.{contradiction-remains}
+use Rattle.elimination.specs.Steps.{StoresRoom, Pivots, column}
+use Rattle.elimination.specs.Taking.{Lent, RoomForOne, PutIn, Still, Joins, Followed, Denied}
+use Rattle.elimination.specs.Settling.{Settles}
+use Rattle.elimination.specs.Solving.{Under, HeldVerdict}
+use Rattle.elimination.specs.Verdict.{Means, Answered}
+use Rattle.elimination.specs.declared.verdict.Verdict.{Verdict}
+use Rattle.elimination.specs.declared.verdict.Verdict.the-variants.{Solved, Contradiction, Open}
+
+-- ---- the stores
+
+-- r rows that stand so, of i that have room
+pub lent-held : {L T r i : ℕ} (ps : List ℕ) {a d : List ℕ} → r ≤ i → StoresRoom i L T a d → Pivots L ps → Stepped L r (column ps) a d → Lent L T r ps a d
+lent-held {L} {T} ps l room places s = record {
+  rows = omega (arith, room .rows, mul-le-mul-right L l);
+  symbols = omega (arith, room .symbols, mul-le-mul-right T l);
+  pivots = omega (arith, rank-at-most s, places .enough);
+  below = s .column;
+}
+
+pub place-next : {L T r i : ℕ} {ps a d : List ℕ} → r ≤ i → StoresRoom (i + 1) L T a d → Pivots L ps → r < L → RoomForOne L T r ps a d
+place-next {L} {T} {r} {i} l room places h =
+    let p : (r + 1) * L ≤ (i + 1) * L = mul-le-mul-right L (omega arith) in
+    let q : (r + 1) * T ≤ (i + 1) * T = mul-le-mul-right T (omega arith) in
+    record { rows = omega (arith, room .rows); symbols = omega (arith, room .symbols); pivots = omega (arith, places .enough) }
+
+-- no equation is taken yet
+pub under-none : (L T : ℕ) (ps : List ℕ) {a d : List ℕ} → Bytes a → Bytes d → Under L T 0 0 ps a d a d
+under-none L T ps ba bd = record {
+  enough = omega arith;
+  stands = stepped-none L (column ps) ba bd;
+  holds = holds-included (λ i h. absurd (omega arith)) (λ i h. absurd (omega arith));
+  rows = only-refl;
+  symbols = only-refl;
+}
+
+-- ---- one more is taken
+
+module _ {L T i r : ℕ} {ps a₀ d₀ a d x₀ y₀ : List ℕ} (x y : List ℕ) (u : Under L T i r ps a₀ d₀ a d) (cx : RowCopied L 0 i a x₀ x) (cy : RowCopied T 0 i d y₀ y) where
+  -- row i stands in the buffers as it did at first
+  entry : (w : ℕ) (b₀ b z₀ z : List ℕ) → OnlyBelow (i * w) b₀ b → RowCopied w 0 i b z₀ z → (c : ℕ) → c < w → getD z c 0 ≡ cell w b₀ i c
+  entry w b₀ b z₀ z o s c h =
+      let e : 0 * w + c ≡ c = omega arith in
+      ap (λ (k : ℕ). getD z k 0) (sym e) ∙ s .part c h ∙ only-past o (i * w + c) (omega arith)
+
+  one-more : OneMore L T (storedSystem i L T a₀ d₀) x y (storedSystem (i + 1) L T a₀ d₀)
+  one-more = record {
+    old = λ k h. (k, omega arith, record { coefs = λ c l. refl; bytes = λ t l. refl });
+    new = λ k h. (i, omega arith, record { coefs = entry L a₀ a x₀ x (u .rows) cx; bytes = entry T d₀ d y₀ y (u .symbols) cy });
+    only = λ k h. go k h (ℕ-discrete k i);
+  }
+    where
+      go : (k : ℕ) → k < i + 1 → Dec (k ≡ i) → ((n : ℕ) × (n < i) × SameEquation L T (storedSystem (i + 1) L T a₀ d₀) k (storedSystem i L T a₀ d₀) n) ⊎ SameEquation L T (storedSystem (i + 1) L T a₀ d₀) k (alone x y) 0
+      go k h (yes e) = inr (record {
+        coefs = λ c l. ap (λ (z : ℕ). cell L a₀ z c) e ∙ sym (entry L a₀ a x₀ x (u .rows) cx c l);
+        bytes = λ t l. ap (λ (z : ℕ). cell T d₀ z t) e ∙ sym (entry T d₀ d y₀ y (u .symbols) cy t l);
+      })
+      go k h (no n) = inl (k, omega arith, record { coefs = λ c l. refl; bytes = λ t l. refl })
+
+  module _ (lent : Lent L T r ps a d) where
+    pub gone-held : {ps₁ a₁ d₁ : List ℕ} → ((c : ℕ) × (c < L) × PutIn L T r c ps a d ps₁ a₁ d₁) → Joins L T r a d x y ps₁ a₁ d₁ → Under L T (i + 1) (r + 1) ps₁ a₀ d₀ a₁ d₁
+    gone-held (c, h, p) j =
+        let l : r ≤ i = u .enough in
+        record {
+          enough = omega arith;
+          stands = j .stands;
+          holds = j .says _ (holds-more (lent .rows) (lent .symbols) (u .holds) one-more);
+          rows = only-trans (only-more (mul-le-mul-right L (omega arith)) (u .rows)) (only-row r (i + 1) (omega arith) (p .rows));
+          symbols = only-trans (only-more (mul-le-mul-right T (omega arith)) (u .symbols)) (only-row r (i + 1) (omega arith) (p .symbols));
+        }
+
+    gone-followed : Followed L T r a d x y → Under L T (i + 1) r ps a₀ d₀ a d
+    gone-followed f =
+        let l : r ≤ i = u .enough in
+        record {
+          enough = omega arith;
+          stands = u .stands;
+          holds = f .says _ (holds-more (lent .rows) (lent .symbols) (u .holds) one-more);
+          rows = only-more (mul-le-mul-right L (omega arith)) (u .rows);
+          symbols = only-more (mul-le-mul-right T (omega arith)) (u .symbols);
+        }
+
+    pub gone-still : {ps₁ a₁ d₁ : List ℕ} → Still ps a d ps₁ a₁ d₁ → Followed L T r a d x y → Under L T (i + 1) r ps₁ a₀ d₀ a₁ d₁
+    gone-still s f = rw (s .pivots, s .rows, s .symbols) (gone-followed f)
+
+    pub gone-denied : Denied L T r a d x y → ContradictionBytes L T (storedSystem (i + 1) L T a₀ d₀)
+    gone-denied f = f .none _ (holds-more (lent .rows) (lent .symbols) (u .holds) one-more)
+
+-- nothing past the equations so far changed
+pub put-only : {L T r : ℕ} {ps a d ps₁ a₁ d₁ : List ℕ} (i : ℕ) → r ≤ i → ((c : ℕ) × (c < L) × PutIn L T r c ps a d ps₁ a₁ d₁)
+    → OnlyBelow ((i + 1) * L) a a₁ × OnlyBelow ((i + 1) * T) d d₁
+put-only {r = r} i l (c, h, p) = (only-row r (i + 1) (omega arith) (p .rows), only-row r (i + 1) (omega arith) (p .symbols))
+
+pub still-only : {ps a d ps₁ a₁ d₁ : List ℕ} (n m : ℕ) → Still ps a d ps₁ a₁ d₁ → OnlyBelow n a a₁ × OnlyBelow m d d₁
+still-only n m s = rw (s .rows, s .symbols) (only-refl, only-refl)
+
+-- ---- all are taken
+
+pub gone-more : (L T : ℕ) {i m : ℕ} (a₀ d₀ : List ℕ) → i ≤ m → ContradictionBytes L T (storedSystem i L T a₀ d₀) → ContradictionBytes L T (storedSystem m L T a₀ d₀)
+gone-more L T a₀ d₀ l c = contradiction-remains (λ k h. (k, omega arith, record { coefs = λ c l. refl; bytes = λ t l. refl })) c
+
+-- what no set fits stays so for every system that the stores held
+pub answered-clash : {M L T : ℕ} (a d o : List ℕ) {a₁ d₁ : List ℕ} → Bytes d → ContradictionBytes L T (storedSystem M L T a d) → Written (λ _. 0) a a₁ 0 (M * L)
+    → Written (λ _. 0) d d₁ 0 (M * T) → Answered M L T a d o a₁ d₁ o Contradiction
+answered-clash {M} {L} {T} a d o bd u wa wd = record {
+  answer = λ S small first. (record { none = λ C b f. u .none C b (fits S first C f) }, refl);
+  rows = wa;
+  symbols = wd;
+}
+  where
+    fits : (S : System ℕ) → Holds M L T S a d → (C : List ℕ) → FitsBytes L T S C → FitsBytes L T (storedSystem M L T a d) C
+    fits S first C f = bytes-of-fits L T (storedSystem M L T a d) (record { below = λ i l t q. bd _ }) C (fits-follows octets L T (first .to) (fits-of-bytes L T S f))
+
+-- what r held equations come to, in the stores a₂ and d₂
+pub answered-held : {M L T r : ℕ} (ps a d o a₂ d₂ : List ℕ) {a₁ d₁ o₁ : List ℕ} (v : Verdict) → 0 < T → Under L T M r ps a d a₂ d₂
+    → Settles L T r ps a₂ d₂ o o₁ → HeldVerdict L r v → Written (λ _. 0) a a₁ 0 (M * L) → Written (λ _. 0) d d₁ 0 (M * T) → Answered M L T a d o a₁ d₁ o₁ v
+answered-held {M} {L} {T} {r} ps a d o a₂ d₂ {o₁ = o₁} v pos u e h wa wd = record { answer = λ S small first. means S small (holds-trans first (u .holds)) v h; rows = wa; symbols = wd }
+  where
+    means : (S : System ℕ) → OctetSymbols T S → Holds r L T S a₂ d₂ → (w : Verdict) → HeldVerdict L r w → Means L T S o o₁ w
+    means S small holds Solved full = (e .solved full pos (u .stands) S small holds, e .past)
+    means S small holds Contradiction q = absurd q
+    means S small holds (Open s) (short, is) =
+        (stepped-open (u .stands) holds small pos short, subst (ShortfallBytes L T S) (sym is) (stepped-shortfall (u .stands) holds), e .short short)
