@@ -21,10 +21,11 @@
  *   holds for every store and list.
  *
  * Stack
- *   spoonripple_solve takes 131 KiB of stack, every other call less than 2 KiB, whatever it is lent and whatever it answers:
- *   frames have a fixed size, no call calls itself, and none allocates. libc's memcpy and memset come on top, a few KiB where
- *   the loader binds them late: a thread with 160 KiB is enough, one with 128 KiB (the default of musl) is not. bindings/c/stack
- *   reads the number of each call from the archive.
+ *   spoonripple_solve takes at most 16 KiB of stack where L and t are at most 2,048, and at most 300 KiB else; every other call
+ *   takes less than 2 KiB. That holds whatever is lent and whatever is answered: frames have a fixed size, no call calls itself,
+ *   and none allocates. libc's memcpy and memset come on top, a few KiB where the loader binds them late: a thread with 32 KiB is
+ *   enough for such blocks, one with 320 KiB for all; 128 KiB (the default of musl) is not. bindings/c/stack reads the number of
+ *   each call from the archive, and bindings/c/frames.c measures that of spoonripple_solve.
  *
  * Words
  *   K source symbols of T octets make a block. `k, j, s, h, w` is a parameter row K', J, S, H, W (5.6 of the RFC, Table 2), of
@@ -306,7 +307,7 @@ uint32_t spoonripple_encode(uint32_t k, uint32_t j, uint32_t s, uint32_t h, uint
  * Lent: rows and values are scratch of any content, M * L and M * t octets, where M = S + H + K' - count + n; out is L * t octets.
  * Writes: after each answer that is no refusal the first M * L octets of rows and M * t of values are 0. The first L * t octets of
  * out are written only with SPOONRIPPLE_DONE, shortfall[0] only with SPOONRIPPLE_OPEN.
- * Stack: 131 KiB, also where it refuses. */
+ * Stack: at most 16 KiB where L and t are at most 2,048 and where it refuses, at most 300 KiB else. */
 uint32_t spoonripple_solve(uint32_t k, uint32_t j, uint32_t s, uint32_t h, uint32_t w, const uint32_t *tables, size_t tables_len,
                            uint32_t count, uint16_t t, const uint32_t *esis, size_t esis_len, const uint8_t *symbols, size_t symbols_len,
                            uint8_t *rows, size_t rows_len, uint8_t *values, size_t values_len, uint8_t *out, size_t out_len,

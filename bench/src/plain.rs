@@ -4,27 +4,19 @@
 use differential::archive::{Arrived, Row, Stores};
 use differential::rows::{rand, shifted, sizes, tuple};
 
-/// The two stores of a system in l symbols of t octets, and the operations on symbols so far: sums, sums with products, products.
+/// The two stores of a system in l symbols of t octets, the equation that is taken, and the operations on symbols so far: sums, sums with products,
+/// products.
 struct System<'a> {
     rows: &'a mut [u8],
     values: &'a mut [u8],
     pivots: Vec<u16>,
+    row: Vec<u8>,
+    symbol: Vec<u8>,
     l: usize,
     t: usize,
     sums: u64,
     fused: u64,
     scaled: u64,
-}
-
-/// Part i of a store for writing, and part k.
-fn parts(store: &mut [u8], w: usize, i: usize, k: usize) -> (&mut [u8], &[u8]) {
-    if i < k {
-        let (front, back) = store.split_at_mut(k * w);
-        (&mut front[i * w..][..w], &back[..w])
-    } else {
-        let (front, back) = store.split_at_mut(i * w);
-        (&mut back[..w], &front[k * w..][..w])
-    }
 }
 
 fn double(x: u8) -> u8 {
@@ -42,8 +34,10 @@ fn times(c: u8, x: u8) -> u8 {
     sum
 }
 
-fn add(store: &mut [u8], w: usize, i: usize, k: usize, by: u8) {
-    let (to, from) = parts(store, w, i, k);
+/// `by` times `from` goes onto `to`. Never inlined: as a function of its own it knows that the two do not overlap, and no test stands before its
+/// vector code.
+#[inline(never)]
+fn add(to: &mut [u8], from: &[u8], by: u8) {
     if by == 1 {
         to.iter_mut().zip(from).for_each(|(x, y)| *x ^= y);
     } else {
@@ -56,23 +50,29 @@ fn scale(row: &mut [u8], by: u8) {
 }
 
 impl System<'_> {
-    /// Row k of both stores goes off row i, by what row i has in column c.
-    fn take_off(&mut self, i: usize, k: usize, c: usize) {
-        let by = self.rows[i * self.l + c];
-        if by == 0 {
-            return;
-        }
-        add(self.rows, self.l, i, k, by);
-        add(self.values, self.t, i, k, by);
+    fn count(&mut self, by: u8) {
         if by == 1 { self.sums += 1 } else { self.fused += 1 }
     }
 
-    fn make_one(&mut self, i: usize, c: usize) {
-        let by = self.rows[i * self.l + c];
+    /// The held rows go off the equation, straight from the stores, by what it has at their pivots.
+    fn sift(&mut self) {
+        let (l, t) = (self.l, self.t);
+        for k in 0..self.pivots.len() {
+            let by = self.row[usize::from(self.pivots[k])];
+            if by != 0 {
+                add(&mut self.row, &self.rows[k * l..][..l], by);
+                add(&mut self.symbol, &self.values[k * t..][..t], by);
+                self.count(by);
+            }
+        }
+    }
+
+    fn make_one(&mut self, c: usize) {
+        let by = self.row[c];
         if by != 1 {
             let inverse = (1..=255).find(|x| times(by, *x) == 1).expect("not 0");
-            scale(&mut self.rows[i * self.l..][..self.l], inverse);
-            scale(&mut self.values[i * self.t..][..self.t], inverse);
+            scale(&mut self.row, inverse);
+            scale(&mut self.symbol, inverse);
             self.scaled += 1;
         }
     }
@@ -80,35 +80,34 @@ impl System<'_> {
     /// Takes equation i; false where it cannot be met.
     fn take(&mut self, i: usize) -> bool {
         let (l, t, r) = (self.l, self.t, self.pivots.len());
-        for k in 0..r {
-            self.take_off(i, k, usize::from(self.pivots[k]));
-        }
-        let Some(c) = self.rows[i * l..][..l].iter().position(|x| *x != 0) else {
-            return self.values[i * t..][..t].iter().all(|x| *x == 0);
+        self.row.copy_from_slice(&self.rows[i * l..][..l]);
+        self.symbol.copy_from_slice(&self.values[i * t..][..t]);
+        self.sift();
+        let Some(c) = self.row.iter().position(|x| *x != 0) else {
+            return self.symbol.iter().all(|x| *x == 0);
         };
-        self.make_one(i, c);
-        if r < i {
-            self.rows.copy_within(i * l..i * l + l, r * l);
-            self.values.copy_within(i * t..i * t + t, r * t);
-            self.rows[i * l..][..l].fill(0);
-            self.values[i * t..][..t].fill(0);
-        }
+        self.make_one(c);
+        self.rows[r * l..][..l].copy_from_slice(&self.row);
+        self.values[r * t..][..t].copy_from_slice(&self.symbol);
         self.pivots.push(c as u16);
         true
     }
 
-    /// Forward, and then back from the last held row.
-    fn eliminate(&mut self, m: usize) -> bool {
-        if !(0..m).all(|i| self.take(i)) {
-            return false;
-        }
-        let r = self.pivots.len();
-        for q in (0..r).rev() {
-            for k in q + 1..r {
-                self.take_off(q, k, usize::from(self.pivots[k]));
+    /// From the last of l held rows back, over the symbols alone: a row is 0 before its pivot, and behind it only where a later row has its pivot.
+    fn settle(&mut self, out: &mut [u8]) {
+        let (l, t) = (self.l, self.t);
+        for q in (0..l).rev() {
+            let p = usize::from(self.pivots[q]);
+            out[p * t..][..t].copy_from_slice(&self.values[q * t..][..t]);
+            for c in p + 1..l {
+                let by = self.rows[q * l + c];
+                if by != 0 {
+                    let (front, back) = out.split_at_mut(c * t);
+                    add(&mut front[p * t..][..t], &back[..t], by);
+                    self.count(by);
+                }
             }
         }
-        true
     }
 }
 
@@ -187,19 +186,19 @@ pub fn solve(row: Row, tables: &[u32], came: Arrived, lent: &mut Stores) -> (u32
     values[sent * t..].fill(0);
     fill_ldpc(numbers, &mut rows[sent * l..]);
     fill_hdpc(numbers, tables, &mut rows[(sent + s) * l..]);
-    let mut system = System { rows, values, pivots: vec![], l, t, sums: 0, fused: 0, scaled: 0 };
-    let meets = system.eliminate(m);
-    let (pivots, counts) = (std::mem::take(&mut system.pivots), [system.sums, system.fused, system.scaled]);
+    let mut system = System { rows, values, pivots: vec![], row: vec![0; l], symbol: vec![0; t], l, t, sums: 0, fused: 0, scaled: 0 };
+    let meets = (0..m).all(|i| system.take(i));
+    let held = system.pivots.len();
     let code = if !meets {
         100
-    } else if pivots.len() < l {
-        lent.shortfall[0] = (l - pivots.len()) as u64;
+    } else if held < l {
+        lent.shortfall[0] = (l - held) as u64;
         101
     } else {
-        let symbols = values.chunks(t);
-        pivots.iter().zip(symbols).for_each(|(c, symbol)| lent.out[usize::from(*c) * t..][..t].copy_from_slice(symbol));
+        system.settle(&mut lent.out);
         0
     };
+    let counts = [system.sums, system.fused, system.scaled];
     rows.fill(0);
     values.fill(0);
     (code, counts)

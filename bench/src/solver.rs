@@ -1,5 +1,5 @@
 //! Solving a block of which K + 2 repair packets came and no source packet: against the same elimination in plain Rust, which takes the rows in the same order, and against the crate's
-//! block decoder, which also rebuilds the source symbols.
+//! block decoder, which also rebuilds the source symbols. The same block with two packets too few, K - 2, is open: that is timed against the solved one.
 use crate::plain;
 use crate::{line, timed};
 use differential::archive::{self, Arrived, Row, Stores};
@@ -38,6 +38,12 @@ impl Block {
         Arrived { count: self.k, t: T, esis: &self.esis, symbols: &self.symbols }
     }
 
+    /// Two packets too few: the first K - 2.
+    fn short(&self) -> Arrived<'_> {
+        let n = self.k as usize - 2;
+        Arrived { esis: &self.esis[..n], symbols: &self.symbols[..n * usize::from(T)], ..self.came() }
+    }
+
     /// The crate's time; its packets are made before.
     fn decoded(&self) -> f64 {
         let mut packets = self.packets.clone();
@@ -62,9 +68,13 @@ fn config(k: u32) -> ObjectTransmissionInformation {
     ObjectTransmissionInformation::new(u64::from(k) * u64::from(T), T, 1, 1, 8)
 }
 
-/// All three give the same symbols, else no time means anything. Returns what the plain elimination did on symbols: sums, sums with products, products.
+/// All three give the same symbols, and with two packets too few both of ours are open, else no time means anything. Returns what the plain elimination
+/// did on symbols: sums, sums with products, products.
 fn agree(block: &Block, tables: &[u32]) -> [u64; 3] {
     let (mut ours, mut theirs) = (block.lent.clone(), block.lent.clone());
+    let code = archive::solve(block.row, tables, block.short(), &mut ours);
+    let (plain, _) = plain::solve(block.row, tables, block.short(), &mut theirs);
+    assert!(code == 101 && plain == 101 && ours == theirs, "both are open, with the same shortfall");
     let code = archive::solve(block.row, tables, block.came(), &mut ours);
     let (plain, operations) = plain::solve(block.row, tables, block.came(), &mut theirs);
     assert!(code == 0 && plain == 0 && ours == theirs, "both solve, and leave the same");
@@ -79,17 +89,19 @@ fn median(mut numbers: Vec<f64>) -> f64 {
     numbers[numbers.len() / 2]
 }
 
-/// Ours over plain Rust, ours over the crate's decoder, and ours with the encodings that rebuild the source symbols over the decoder. In each turn
-/// all are timed one after the other, so that they see the same machine; the median of the turns counts.
-fn ratios(block: &Block, tables: &[u32]) -> [f64; 3] {
-    let (mut ours, mut theirs) = (block.lent.clone(), block.lent.clone());
-    let mut turns = [vec![], vec![], vec![]];
+/// Ours over plain Rust, ours over the crate's decoder, ours with the encodings that rebuild the source symbols over the decoder, and ours with two
+/// packets too few over ours. In each turn all are timed one after the other, each on stores of its own, so that they see the same machine; the median
+/// of the turns counts.
+fn ratios(block: &Block, tables: &[u32]) -> [f64; 4] {
+    let [mut ours, mut theirs, mut short] = [(); 3].map(|()| block.lent.clone());
+    let mut turns = [vec![], vec![], vec![], vec![]];
     for _ in 0..(40_000 / block.k).clamp(150, 800) {
         let solve = timed(1, &mut || assert!(archive::solve(block.row, tables, black_box(block.came()), black_box(&mut ours)) == 0));
         let plain = timed(1, &mut || assert!(plain::solve(block.row, tables, black_box(block.came()), black_box(&mut theirs)).0 == 0));
         let decoder = block.decoded();
         let rebuild = timed(1, &mut || drop(black_box(block.rebuilt(tables, black_box(&block.lent.out)))));
-        let turn = [solve / plain, solve / decoder, (solve + rebuild) / decoder];
+        let open = timed(1, &mut || assert!(archive::solve(block.row, tables, black_box(block.short()), black_box(&mut short)) == 101));
+        let turn = [solve / plain, solve / decoder, (solve + rebuild) / decoder, open / solve];
         turns.iter_mut().zip(turn).for_each(|(all, ratio)| all.push(ratio));
     }
     turns.map(median)
@@ -99,30 +111,33 @@ fn ratios(block: &Block, tables: &[u32]) -> [f64; 3] {
 fn told(block: &Block, [sums, fused, scaled]: [u64; 3]) {
     let all = sums + fused + scaled;
     let bar = match block.k {
-        100 => Some(3_700),
-        500 => Some(23_000),
+        100 => Some(3_150),
+        500 => Some(19_398),
         _ => None,
     };
     let bar = bar.map_or(String::new(), |b| format!(" (at most {b}){}", if all <= b { "" } else { ": MISSED" }));
     println!("{:<34} {all} operations on symbols{bar}: {sums} sums, {fused} with products, {scaled} products", "");
     let [l, m, t] = block.measures();
     let kib = |bytes: usize| bytes.div_ceil(1024);
-    let (rows, values, out, pivots) = (kib(m * l), kib(m * t), kib(l * t), kib(2 * 65_535));
-    println!("{:<34} {} KiB of memory: rows {rows}, values {values}, out {out}, pivots {pivots}", "", rows + values + out + pivots);
+    // In the frame: a pivot of two octets for each column, a row and a symbol, in one of two sizes.
+    let most = if l <= 2_048 && t <= 2_048 { 2_048 } else { 65_535 };
+    let (rows, values, out, frame) = (kib(m * l), kib(m * t), kib(l * t), kib(4 * most));
+    println!("{:<34} {} KiB of memory: rows {rows}, values {values}, out {out}, frame {frame}", "", rows + values + out + frame);
 }
 
 pub fn run() {
     let tables = published();
     let mut random = Random::new(3);
     let mut growth = vec![];
-    for k in [10, 50, 100, 250, 500] {
+    for k in [10, 50, 100, 250, 500, 1000] {
         let block = Block::new(&mut random, k);
         let operations = agree(&block, &tables);
-        let [plain, decoder, rebuilt] = ratios(&block, &tables);
+        let [plain, decoder, rebuilt, open] = ratios(&block, &tables);
         let work = format!("solve, K = {k}, T = {T}");
-        line(&work, "plain Rust", plain, Some(1.2));
+        line(&work, "plain Rust", plain, Some(1.05));
         line(&work, "the crate's decoder", decoder, (k >= 100).then_some(4.0));
         line("with the source symbols rebuilt", "the crate's decoder", rebuilt, None);
+        line("two packets too few, open", "the solved block", open, (k == 500).then_some(0.85));
         told(&block, operations);
         growth.push(format!("{decoder:.2} at K = {k}"));
     }

@@ -128,10 +128,14 @@ fn spoil(random: &mut Random, packets: &mut Vec<EncodingPacket>) -> Option<&'sta
     Some("D20 (an ESI twice with unequal symbols)")
 }
 
+/// T of most blocks: short.
+fn any_size(random: &mut Random) -> u16 {
+    if random.below(20) == 0 { 41 + random.below(260) as u16 } else { 1 + random.below(40) as u16 }
+}
+
 /// A block that the crate encoded, of which k + extra packets came.
-fn real(report: &mut Report, random: &mut Random, k: u32, extra: i64) {
+fn real(report: &mut Report, random: &mut Random, k: u32, t: u16, extra: i64) {
     let tables = published();
-    let t = if random.below(20) == 0 { 41 + random.below(260) as u16 } else { 1 + random.below(40) as u16 };
     let block = Block::new(random, k, t);
     let mut packets = some(random, block.packets.clone(), (i64::from(k) + extra).max(0) as usize);
     let rule = spoil(random, &mut packets);
@@ -417,7 +421,8 @@ pub fn run(count: u64, seed: u64) -> Found {
     for turn in 0..count.div_ceil(1_000_000) {
         for k in 1..=300 {
             for extra in [0, 1, 2, 3, -1 - (turn as i64 + i64::from(k)) % 3] {
-                real(&mut report, &mut random, k, extra);
+                let t = any_size(&mut random);
+                real(&mut report, &mut random, k, t, extra);
             }
         }
     }
@@ -428,5 +433,9 @@ pub fn run(count: u64, seed: u64) -> Found {
     times(count / 50, made_up);
     times(count / 10, refused);
     times(count / 10, display);
+    // The solver has another frame from L or T of 2,049 on: blocks on both sides (the rows of K' = 1,954 and 1,979 have L = 2,048 and 2,073).
+    for (k, t) in [(10, 2048), (10, 2049), (10, 65535), (1954, 1), (1979, 1)] {
+        [0, 2, -2].into_iter().for_each(|extra| real(&mut report, &mut random, k, t, extra));
+    }
     report.close()
 }
