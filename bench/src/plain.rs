@@ -45,6 +45,21 @@ fn add(to: &mut [u8], from: &[u8], by: u8) {
     }
 }
 
+/// The same for a row of coefficients: most are of 0 and 1, which needs no product, and a look at all of it takes less than the products.
+#[inline(never)]
+fn add_row(to: &mut [u8], from: &[u8], by: u8) {
+    if by != 1 && from.iter().copied().fold(0, u8::max) < 2 {
+        to.iter_mut().zip(from).for_each(|(x, y)| *x ^= if *y == 0 { 0 } else { by });
+    } else {
+        add(to, from, by);
+    }
+}
+
+/// Where a sum of rows begins that are 0 before column c: at c, or so much before it that vector code takes what is left whole.
+fn begin(l: usize, c: usize) -> usize {
+    c.saturating_sub((16 - (l - c) % 16) % 16)
+}
+
 fn scale(row: &mut [u8], by: u8) {
     row.iter_mut().for_each(|x| *x = times(by, *x));
 }
@@ -54,13 +69,15 @@ impl System<'_> {
         if by == 1 { self.sums += 1 } else { self.fused += 1 }
     }
 
-    /// The held rows go off the equation, straight from the stores, by what it has at their pivots.
+    /// The held rows go off the equation, straight from the stores, by what it has at their pivots; they are 0 before these.
     fn sift(&mut self) {
         let (l, t) = (self.l, self.t);
         for k in 0..self.pivots.len() {
-            let by = self.row[usize::from(self.pivots[k])];
+            let c = usize::from(self.pivots[k]);
+            let by = self.row[c];
             if by != 0 {
-                add(&mut self.row, &self.rows[k * l..][..l], by);
+                let start = begin(l, c);
+                add_row(&mut self.row[start..], &self.rows[k * l..][start..l], by);
                 add(&mut self.symbol, &self.values[k * t..][..t], by);
                 self.count(by);
             }

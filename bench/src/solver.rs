@@ -91,18 +91,20 @@ fn median(mut numbers: Vec<f64>) -> f64 {
 
 /// Ours over plain Rust, ours over the crate's decoder, ours with the encodings that rebuild the source symbols over the decoder, and ours with two
 /// packets too few over ours. In each turn all are timed one after the other, each on stores of its own, so that they see the same machine; the median
-/// of the turns counts.
+/// of the turns counts. Of the solved and the open block the one is first in one turn and the other in the next.
 fn ratios(block: &Block, tables: &[u32]) -> [f64; 4] {
     let [mut ours, mut theirs, mut short] = [(); 3].map(|()| block.lent.clone());
     let mut turns = [vec![], vec![], vec![], vec![]];
-    for _ in 0..(40_000 / block.k).clamp(150, 800) {
+    for turn in 0..(40_000 / block.k).clamp(150, 800) {
+        let mut few = || timed(1, &mut || assert!(archive::solve(block.row, tables, black_box(block.short()), black_box(&mut short)) == 101));
+        let before = (turn % 2 == 1).then(&mut few);
         let solve = timed(1, &mut || assert!(archive::solve(block.row, tables, black_box(block.came()), black_box(&mut ours)) == 0));
+        let open = before.unwrap_or_else(few);
         let plain = timed(1, &mut || assert!(plain::solve(block.row, tables, black_box(block.came()), black_box(&mut theirs)).0 == 0));
         let decoder = block.decoded();
         let rebuild = timed(1, &mut || drop(black_box(block.rebuilt(tables, black_box(&block.lent.out)))));
-        let open = timed(1, &mut || assert!(archive::solve(block.row, tables, black_box(block.short()), black_box(&mut short)) == 101));
-        let turn = [solve / plain, solve / decoder, (solve + rebuild) / decoder, open / solve];
-        turns.iter_mut().zip(turn).for_each(|(all, ratio)| all.push(ratio));
+        let ratios = [solve / plain, solve / decoder, (solve + rebuild) / decoder, open / solve];
+        turns.iter_mut().zip(ratios).for_each(|(all, ratio)| all.push(ratio));
     }
     turns.map(median)
 }
