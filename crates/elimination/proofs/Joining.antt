@@ -29,8 +29,8 @@ use Rattle.linear.proofs.Elimination.{stepped-agree, stepped-more, off-more, ro
 use Rattle.linear.proofs.Keeping.{keeps-refl, keeps-trans, keeps-added, keeps-scaled, holds-kept, holds-agree}
 use Rattle.linear.proofs.Finish.{clash}
 use Rattle.elimination.specs.Steps.{Passed, FirstOther, column}
-use Rattle.elimination.specs.Taking.{Lent, RoomForOne, Wide, Onto, Times, Swept, Sought, Fresh, PutIn, Lodged, Followed, Denied}
-use Rattle.elimination.proofs.Buffers.{written-long}
+use Rattle.elimination.specs.Taking.{Lent, RoomForOne, Wide, Onto, OntoFrom, Times, Swept, Sought, Fresh, PutIn, Lodged, Followed, Denied}
+use Rattle.elimination.proofs.Buffers.{written-long, onto-all}
 open Field octets using (𝟘)
 
 -- ---- the held rows go off the equation
@@ -55,15 +55,18 @@ module _ {L T r : ℕ} {ps a d : List ℕ} (lent : Lent L T r ps a d) where
   onto-bytes : (w k f : ℕ) (b : List ℕ) {z z₁ : List ℕ} → Bytes z → Onto w k f b z z₁ → Bytes z₁
   onto-bytes w k f b {z} bz s = bytes-written bz (λ c h. xor-lt 8 (getD z c 0) (times f (cell w b k c)) (bz c) (times-lt f (cell w b k c))) s
 
-  pub swept-row : {k f : ℕ} {x y x₁ y₁ x₂ y₂ : List ℕ} → Stepped L r (column ps) a d → k < r → f ≡ getD x₁ (column ps k) 0 → Onto L k f a x₁ x₂
-      → Onto T k f d y₁ y₂ → Swept L T r k ps a d x y x₁ y₁ → Swept L T r (k + 1) ps a d x y x₂ y₂
-  swept-row {k} {f} {x₁ = x₁} {x₂ = x₂} t h e sa sd s = record {
-    gone = off-more x₁ x₂ t h (s .row-bytes) e (λ c l. ap (λ (m : ℕ). getD x₂ m 0) (sym (zero-add c)) ∙ sa .part c l) (s .gone);
-    keeps = keeps-trans (s .keeps)
-        (keeps-added r k f (omega arith) (λ q. omega arith) (added-behind L k f a (lent .rows) h sa) (added-behind T k f d (lent .symbols) h sd));
-    row-bytes = onto-bytes L k f a (s .row-bytes) sa;
-    symbol-bytes = onto-bytes T k f d (s .symbol-bytes) sd;
-  }
+  -- held row k went off it, from its pivot or a column before it on
+  pub swept-row : {k f : ℕ} (s : ℕ) {x y x₁ y₁ x₂ y₂ : List ℕ} → Stepped L r (column ps) a d → k < r → f ≡ getD x₁ (column ps k) 0 → s ≤ column ps k
+      → OntoFrom L k s f a x₁ x₂ → Onto T k f d y₁ y₂ → Swept L T r k ps a d x y x₁ y₁ → Swept L T r (k + 1) ps a d x y x₂ y₂
+  swept-row {k} {f} s {x₁ = x₁} {x₂ = x₂} t h e b from sd u =
+      let sa : Onto L k f a x₁ x₂ = onto-all k s f a x₁ (omega (arith, b, t .column k h)) (λ c l. t .low k h c (omega arith)) from in
+      record {
+        gone = off-more x₁ x₂ t h (u .row-bytes) e (λ c l. ap (λ (m : ℕ). getD x₂ m 0) (sym (zero-add c)) ∙ sa .part c l) (u .gone);
+        keeps = keeps-trans (u .keeps)
+            (keeps-added r k f (omega arith) (λ q. omega arith) (added-behind L k f a (lent .rows) h sa) (added-behind T k f d (lent .symbols) h sd));
+        row-bytes = onto-bytes L k f a (u .row-bytes) sa;
+        symbol-bytes = onto-bytes T k f d (u .symbol-bytes) sd;
+      }
 
 -- ---- the equation is held
 

@@ -4,7 +4,7 @@
 use mathlib.Core.Path.{_≡_}
 use mathlib.Core.Logic.{_≢_}
 use mathlib.Core.List.{List}
-use Prim.Native.Nat.{ℕ, _+_, _*_, _≤_, _<_}
+use Prim.Native.Nat.{ℕ, _+_, _-_, _*_, _≤_, _<_}
 use lib.ListN.{length, getD}
 use Rattle.field.specs.Octet.{plus, times}
 use Rattle.field.specs.Runs.{Written}
@@ -38,7 +38,11 @@ pub record Wide (L T : ℕ) (x y : List ℕ) : Type 0 where
 
 -- ---- the steps
 
--- f times row k of a went onto x
+-- f times row k of a, from column s on, went onto x
+abbrev pub OntoFrom : (w k s f : ℕ) (a x x₁ : List ℕ) → Type 0
+OntoFrom w k s f a x x₁ = Written (λ c. plus (getD x (s + c) 0) (times f (cell w a k (s + c)))) x x₁ s (w - s)
+
+-- all of it
 abbrev pub Onto : (w k f : ℕ) (a x x₁ : List ℕ) → Type 0
 Onto w k f a x x₁ = Written (λ c. plus (getD x c 0) (times f (cell w a k c))) x x₁ 0 w
 

@@ -8,7 +8,9 @@ use native.Mathlib.Decide.{decLt}
 use native.Mathlib.Omega.{arith}
 use lib.ListN.{length, getD, set, length-set}
 use lib.Seq.{getD-set-same, getD-set-other, ext-getD}
-use Rattle.field.specs.Runs.{Written}
+use Rattle.field.specs.Octet.{plus, times}
+use Rattle.field.specs.Runs.{Written, added, fused}
+use Rattle.field.proofs.Laws.{one-times}
 
 -- nothing yet
 pub written-none : (f : ℕ → ℕ) (xs : List ℕ) (at : ℕ) → Written f xs xs at 0
@@ -60,3 +62,9 @@ module _ {f : ℕ → ℕ} {xs ys : List ℕ} {at n : ℕ} (w : Written f xs ys 
       go k (no l) (yes m) =
           let i : at + (k - at) ≡ k = omega arith in
           subst (λ (x : ℕ). getD ys x 0 ≡ getD zs x 0) i (w .part (k - at) (omega arith) ∙ sym (u .part (k - at) (omega arith)))
+
+-- a sum is a sum with 1 times the run
+pub added-fused : {d d₁ : List ℕ} {at n : ℕ} (s : List ℕ) (c : ℕ) → c ≡ 1 → ((i : ℕ) → getD s i 0 < 256) → Written (added d at s) d d₁ at n
+    → Written (fused d at c s) d d₁ at n
+added-fused {d} {at = at} s c e b w =
+    written-as w (λ k h. ap (plus (getD d (at + k) 0)) (sym (ap (λ (z : ℕ). times z (getD s k 0)) e ∙ one-times (getD s k 0) (b k))))

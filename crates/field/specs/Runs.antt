@@ -33,3 +33,7 @@ scaled c d k = times c (getD d k 0)
 
 abbrev pub fused : List ℕ → ℕ → ℕ → List ℕ → ℕ → ℕ
 fused d at c s k = plus (getD d (at + k) 0) (times c (getD s k 0))
+
+-- no octet of xs is larger than m
+abbrev pub AtMost : ℕ → List ℕ → Type 0
+AtMost m xs = (k : ℕ) → k < length xs → getD xs k 0 ≤ m

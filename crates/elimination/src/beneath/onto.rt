@@ -1,36 +1,45 @@
 // A row or a symbol in a buffer of its own, with a row or a symbol of a store.
 ghost use mathlib.Core.Path.{_≡_};
-ghost use Prim.Native.Nat.{_+_, _*_, _≤_, _<_};
+ghost use Prim.Native.Nat.{ℕ, _+_, _*_, _≤_, _<_};
 ghost use lib.ListN.{length, getD};
 ghost use Rattle.field.specs.Octet as octets;
-ghost use Rattle.field.specs.Runs.{Written};
-ghost use Rattle.elimination.specs.Taking.{Onto, Times};
+ghost use Rattle.elimination.specs.Taking.{Onto, OntoFrom, Times};
 use field::beneath::runs;
 use field::octet;
 
-// f times src goes onto dst. Most factors are 1, and a sum is some ten times as fast as a sum with products.
-fn add(dst: &mut [u8], src: &[u8], f: u8)
-    requires { ⌜ length (now src) ≡ length (now dst) ⌝ }
-    ensures { λ _. ⌜ Written (λ c. octets.plus (getD (now (dst .entry)) c 0) (octets.times f (getD (now (src .entry)) c 0))) (now (dst .entry)) (now (dst .exit)) 0 (length (now (dst .entry))) ⌝ }
+// Where a sum of rows begins that are 0 before column c: at c, or so much before it that vector code takes what is left whole.
+fn begin(l: usize, c: usize) -> usize
+    requires { ⌜ c < l ⌝ }
+    ensures { λ s. ⌜ s ≤ c ⌝ }
 {
-    if f == 1 {
-        runs::add(dst, 0, src);
-        return;
+    let back = (16 - (l - c) % 16) % 16;
+    if c < back {
+        return 0;
     }
-    runs::fma(dst, 0, src, f);
+    c - back
 }
 
-// f times row k of the store goes onto dst, straight from the store.
-fn add_row(dst: &mut [u8], store: &[u8], w: usize, k: usize, f: u8)
-    requires { ⌜ (length (now dst) ≡ w) × (k * w + w ≤ length (now store)) ⌝ }
-    ensures { λ _. ⌜ Onto w k f (now (store .entry)) (now (dst .entry)) (now (dst .exit)) ⌝ }
+// f times row k of the store, from column s on, goes onto dst, straight from the store.
+fn add_row(dst: &mut [u8], store: &[u8], l: usize, k: usize, s: usize, f: u8)
+    requires { ⌜ (length (now dst) ≡ l) × (k * l + l ≤ length (now store)) × (s ≤ l) ⌝ }
+    ensures { λ _. ⌜ OntoFrom l k s f (now (store .entry)) (now (dst .entry)) (now (dst .exit)) ⌝ }
 {
-    let first = k * w;
-    let last = first + w;
-    add(dst, &store[first..last], f);
+    let first = k * l + s;
+    let last = k * l + l;
+    runs::fma_row(dst, s, &store[first..last], f);
 }
 
-// Row k of both stores goes off the equation, by what that has in column c.
+// f times symbol k of the store goes onto dst.
+fn add_symbol(dst: &mut [u8], store: &[u8], t: usize, k: usize, f: u8)
+    requires { ⌜ (length (now dst) ≡ t) × (k * t + t ≤ length (now store)) ⌝ }
+    ensures { λ _. ⌜ Onto t k f (now (store .entry)) (now (dst .entry)) (now (dst .exit)) ⌝ }
+{
+    let first = k * t;
+    let last = first + t;
+    runs::fma_symbol(dst, 0, &store[first..last], f);
+}
+
+// Row k of both stores goes off the equation, by what that has in column c, where the row has its pivot.
 pub fn take_off(
     rows: &[u8],
     values: &[u8],
@@ -42,12 +51,12 @@ pub fn take_off(
     symbol: &mut [u8],
 )
     requires { ⌜ (length (now row) ≡ l) × (length (now symbol) ≡ t) × (k * l + l ≤ length (now rows)) × (k * t + t ≤ length (now values)) × (c < l) ⌝ }
-    ensures { λ _. ⌜ Onto l k (getD (now (row .entry)) c 0) (now (rows .entry)) (now (row .entry)) (now (row .exit)) ⌝ }
+    ensures { λ _. ⌜ ((s : ℕ) × (s ≤ c) × OntoFrom l k s (getD (now (row .entry)) c 0) (now (rows .entry)) (now (row .entry)) (now (row .exit))) ⌝ }
     ensures { λ _. ⌜ Onto t k (getD (now (row .entry)) c 0) (now (values .entry)) (now (symbol .entry)) (now (symbol .exit)) ⌝ }
 {
     let f = row[c];
-    add_row(row, rows, l, k, f);
-    add_row(symbol, values, t, k, f);
+    add_row(row, rows, l, k, begin(l, c), f);
+    add_symbol(symbol, values, t, k, f);
 }
 
 fn inverse(x: u8) -> u8

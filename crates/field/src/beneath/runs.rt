@@ -1,8 +1,10 @@
 // The octets' arithmetic on runs of bytes, place by place: every sum and product of symbols is made here.
 // Products are by doubling, which compiles to vector code; a table would be built anew in the frame of each call.
-ghost use Prim.Native.Nat.{_+_, _≤_};
+ghost use mathlib.Core.Path.{_≡_};
+ghost use Prim.Native.Nat.{_+_, _<_, _≤_};
 ghost use lib.ListN.{length};
-ghost use Rattle.field.specs.Runs.{Written, added, fused, scaled};
+ghost use Rattle.field.specs.Octet.{times};
+ghost use Rattle.field.specs.Runs.{AtMost, Written, added, fused, scaled};
 use crate::doubling;
 
 // 0 at n places, from place `at` of dst on
@@ -50,4 +52,77 @@ pub fn fma(dst: &mut [u8], at: usize, src: &[u8], c: u8)
         dst[at + i] = dst[at + i] ^ doubling::mul(src[i], c);
         i += 1;
     }
+}
+
+fn larger(x: u8, y: u8) -> u8
+    ensures { λ r. ⌜ (x ≤ r) × (y ≤ r) ⌝ }
+{
+    if x < y {
+        return y;
+    }
+    x
+}
+
+// No octet of src is larger than the answer.
+fn most(src: &[u8]) -> u8
+    ensures { λ r. ⌜ AtMost r (now (src .entry)) ⌝ }
+{
+    let mut x = 0u8;
+    let mut i = 0;
+    while i < src.len() {
+        x = larger(x, src[i]);
+        i += 1;
+    }
+    x
+}
+
+// c times 0 or 1
+fn multiple(x: u8, c: u8) -> u8
+    requires { ⌜ x < 2 ⌝ }
+    ensures { λ r. ⌜ r ≡ times c x ⌝ }
+{
+    if x == 0 {
+        return 0;
+    }
+    c
+}
+
+// dst + c · src, from place `at` of dst on, where src is of 0 and 1
+fn fma_bits(dst: &mut [u8], at: usize, src: &[u8], c: u8)
+    requires { ⌜ (at + length (now src) ≤ length (now dst)) × AtMost 1 (now src) ⌝ }
+    ensures { λ r. ⌜ Written (fused (now (dst .entry)) at c (now (src .entry))) (now (dst .entry)) (now (dst .exit)) at (length (now (src .entry))) ⌝ }
+{
+    let mut i = 0;
+    while i < src.len() {
+        dst[at + i] = dst[at + i] ^ multiple(src[i], c);
+        i += 1;
+    }
+}
+
+// The same as `fma`, where c is mostly 1: a sum is some ten times as fast as a sum with products.
+pub fn fma_symbol(dst: &mut [u8], at: usize, src: &[u8], c: u8)
+    requires { ⌜ at + length (now src) ≤ length (now dst) ⌝ }
+    ensures { λ r. ⌜ Written (fused (now (dst .entry)) at c (now (src .entry))) (now (dst .entry)) (now (dst .exit)) at (length (now (src .entry))) ⌝ }
+{
+    if c == 1 {
+        add(dst, at, src);
+        return;
+    }
+    fma(dst, at, src, c);
+}
+
+// The same, where src is mostly of 0 and 1, as a row of coefficients is: a look at all of it takes less than the products.
+pub fn fma_row(dst: &mut [u8], at: usize, src: &[u8], c: u8)
+    requires { ⌜ at + length (now src) ≤ length (now dst) ⌝ }
+    ensures { λ r. ⌜ Written (fused (now (dst .entry)) at c (now (src .entry))) (now (dst .entry)) (now (dst .exit)) at (length (now (src .entry))) ⌝ }
+{
+    if c == 1 {
+        add(dst, at, src);
+        return;
+    }
+    if most(src) < 2 {
+        fma_bits(dst, at, src, c);
+        return;
+    }
+    fma(dst, at, src, c);
 }

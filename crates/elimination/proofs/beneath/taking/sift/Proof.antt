@@ -50,7 +50,7 @@ add-next-pivot c = omega (arith, c .before .before .before .before .before .befo
 next-pivot-requires-2 : tie.Need-next-pivot-requires-2 Inv-loop μ-loop
 next-pivot-requires-2 c κs =
     let s = c .before .before .before .before .before .before .before .before .before .before .before .before .before .before .before .before .before .before in
-    (omega (arith, c .before .before .before .before .before .before .before .before .before .loop-test .taken), s .pre .0 .pivots, λ j h. omega (arith, s .pre .0 .below j h, c .before .before .before .before .before .before .before .before .before .before .loop .inv .1 .row, c .before .before .before .before .before .take-off .ensures .0 .size))
+    (omega (arith, c .before .before .before .before .before .before .before .before .before .loop-test .taken), s .pre .0 .pivots, λ j h. omega (arith, s .pre .0 .below j h, c .before .before .before .before .before .before .before .before .before .before .loop .inv .1 .row, c .before .before .before .before .before .take-off .ensures .0 .2 .size))
 
 loop-less : tie.Need-loop-less Inv-loop μ-loop
 loop-less c = omega (arith, c .before .before .before .before .before .before .before .before .before .before .loop-test .taken, c .next-pivot2 .ensures .least, c .next-pivot2 .ensures .most)
@@ -61,8 +61,11 @@ loop-again c =
     let v = c .before .before .before .before .before .before .before .before .before .before .before .loop .inv in
     let h = c .before .before .before .before .before .before .before .before .before .before .loop-test .taken in
     let e = c .before .before .before .before .before .before .take-off .ensures in
-    let n = c .next-pivot2 .ensures in
-    (n .most, record { row = e .0 .size ∙ v .1 .row; symbol = e .1 .size ∙ v .1 .symbol }, λ q. swept-past (s .pre .0) n (swept-row (s .pre .0) q h refl (e .0) (e .1) (v .2 q)))
+    let n = c .next-pivot2 .ensures in (
+      n .most,
+      record { row = e .0 .2 .size ∙ v .1 .row; symbol = e .1 .size ∙ v .1 .symbol },
+      λ q. swept-past (s .pre .0) n (swept-row (s .pre .0) (e .0 .0) q h refl (e .0 .1) (e .0 .2) (e .1) (v .2 q)),
+    )
 
 same-length : tie.Need-same-length Inv-loop μ-loop
 same-length c = omega (arith, c .before .loop .inv .1 .row, c .before .before .before .before .before .before .before .before .before .pre .1 .row)
