@@ -10,22 +10,21 @@ use native.Mathlib.Decide.{ℕ-discrete}
 use lib.ListN.{getD}
 use Rattle.field.specs.Runs.{Written}
 use Rattle.linear.specs.System.{System, SameEquation, OneOf}
-use Rattle.linear.specs.Octets.{octets}
-use Rattle.linear.specs.Bytes.{Bytes, cell, storedSystem, OctetSymbols, FitsBytes, ContradictionBytes, ShortfallBytes}
-use Rattle.linear.specs.Rows.{RowCopied, OnlyBelow}
+use Rattle.linear.specs.Bytes.{Bytes, cell, storedSystem, OctetSymbols, ContradictionBytes, ShortfallBytes}
+use Rattle.linear.specs.Rows.{RowCopied, OnlyBelow, behind}
 use Rattle.linear.specs.Elimination.{Holds, Stepped, OneMore, alone}
 use Rattle.linear.proofs.Rows.{only-refl, only-past, only-trans, only-more, only-row}
 use Rattle.linear.proofs.Keeping.{holds-included, holds-trans, holds-more}
 use Rattle.linear.proofs.Elimination.{stepped-none, rank-at-most}
-use Rattle.linear.proofs.Finish.{stepped-open, stepped-shortfall}
-use Rattle.linear.proofs.System.{fits-follows}
-use Rattle.linear.proofs.Bytes.{fits-of-bytes, bytes-of-fits}
+use Rattle.linear.proofs.Finish.{held-denied, stepped-open, stepped-shortfall}
 use Rattle.linear.proofs.Growth.{contradiction-remains}
 use Rattle.elimination.specs.Steps.{StoresRoom, Pivots, column}
-use Rattle.elimination.specs.Taking.{Lent, RoomForOne, PutIn, Still, Joins, Followed, Denied}
+use Rattle.elimination.specs.Taking.{Lent, RoomForOne, Became}
 use Rattle.elimination.specs.Settling.{Settles}
-use Rattle.elimination.specs.Solving.{Under, HeldVerdict}
+use Rattle.elimination.specs.Solving.{Under, Gone, HeldVerdict, progressed}
 use Rattle.elimination.specs.Verdict.{Means, Answered}
+use Rattle.elimination.specs.declared.beneath.taking.Taken.{Taken}
+use Rattle.elimination.specs.declared.beneath.taking.Taken.the-variants.{Held, Dependent, Clash}
 use Rattle.elimination.specs.declared.verdict.Verdict.{Verdict}
 use Rattle.elimination.specs.declared.verdict.Verdict.the-variants.{Solved, Contradiction, Open}
 
@@ -58,6 +57,13 @@ under-none L T ps ba bd = record {
 
 -- ---- one more is taken
 
+-- whatever became of it, nothing past the equations so far changed
+pub became-only : (L T : ℕ) {i r : ℕ} (ps a d x y ps₁ a₁ d₁ : List ℕ) → r ≤ i → (k : Taken) → Became L T r ps a d x y ps₁ a₁ d₁ k
+    → OnlyBelow ((i + 1) * L) a a₁ × OnlyBelow ((i + 1) * T) d d₁
+became-only L T {i} {r} ps a d x y ps₁ a₁ d₁ l Held (h, (c, b, p), q) = (only-row r (i + 1) (omega arith) (p .rows), only-row r (i + 1) (omega arith) (p .symbols))
+became-only L T ps a d x y ps₁ a₁ d₁ l Dependent (s, q) = rw (s .rows, s .symbols) (only-refl, only-refl)
+became-only L T ps a d x y ps₁ a₁ d₁ l Clash (s, q) = rw (s .rows, s .symbols) (only-refl, only-refl)
+
 module _ {L T i r : ℕ} {ps a₀ d₀ a d x₀ y₀ : List ℕ} (x y : List ℕ) (u : Under L T i r ps a₀ d₀ a d) (cx : RowCopied L 0 i a x₀ x) (cy : RowCopied T 0 i d y₀ y) where
   -- row i stands in the buffers as it did at first
   entry : (w : ℕ) (b₀ b z₀ z : List ℕ) → OnlyBelow (i * w) b₀ b → RowCopied w 0 i b z₀ z → (c : ℕ) → c < w → getD z c 0 ≡ cell w b₀ i c
@@ -85,42 +91,28 @@ module _ {L T i r : ℕ} {ps a₀ d₀ a d x₀ y₀ : List ℕ} (x y : List ℕ
       })
       go k h (no n) = inl (k, omega arith, record { coefs = λ c l. refl; bytes = λ t l. refl })
 
+  -- n are held now
+  under : (n : ℕ) (ps₁ a₁ d₁ : List ℕ) → n ≤ i + 1 → Stepped L n (column ps₁) a₁ d₁ → Holds n L T R a₁ d₁
+      → OnlyBelow ((i + 1) * L) a a₁ × OnlyBelow ((i + 1) * T) d d₁ → Under L T (i + 1) n ps₁ a₀ d₀ a₁ d₁
+  under n ps₁ a₁ d₁ l s h (ra, rd) = record {
+    enough = l;
+    stands = s;
+    holds = h;
+    rows = only-trans (only-more (mul-le-mul-right L (omega arith)) (u .rows)) ra;
+    symbols = only-trans (only-more (mul-le-mul-right T (omega arith)) (u .symbols)) rd;
+  }
+
   module _ (lent : Lent L T r ps a d) where
-    pub gone-held : {ps₁ a₁ d₁ : List ℕ} → ((c : ℕ) × (c < L) × PutIn L T r c ps a d ps₁ a₁ d₁) → Joins L T r a d x y ps₁ a₁ d₁ → Under L T (i + 1) (r + 1) ps₁ a₀ d₀ a₁ d₁
-    gone-held (c, h, p) j =
-        let l : r ≤ i = u .enough in
-        record {
-          enough = omega arith;
-          stands = j .stands;
-          holds = j .says _ (holds-more (lent .rows) (lent .symbols) (u .holds) one-more);
-          rows = only-trans (only-more (mul-le-mul-right L (omega arith)) (u .rows)) (only-row r (i + 1) (omega arith) (p .rows));
-          symbols = only-trans (only-more (mul-le-mul-right T (omega arith)) (u .symbols)) (only-row r (i + 1) (omega arith) (p .symbols));
-        }
+    more : Holds (r + 1) L T R (behind L r a x) (behind T r d y)
+    more = holds-more (lent .rows) (lent .symbols) (u .holds) one-more
 
-    gone-followed : Followed L T r a d x y → Under L T (i + 1) r ps a₀ d₀ a d
-    gone-followed f =
-        let l : r ≤ i = u .enough in
-        record {
-          enough = omega arith;
-          stands = u .stands;
-          holds = f .says _ (holds-more (lent .rows) (lent .symbols) (u .holds) one-more);
-          rows = only-more (mul-le-mul-right L (omega arith)) (u .rows);
-          symbols = only-more (mul-le-mul-right T (omega arith)) (u .symbols);
-        }
-
-    pub gone-still : {ps₁ a₁ d₁ : List ℕ} → Still ps a d ps₁ a₁ d₁ → Followed L T r a d x y → Under L T (i + 1) r ps₁ a₀ d₀ a₁ d₁
-    gone-still s f = rw (s .pivots, s .rows, s .symbols) (gone-followed f)
-
-    pub gone-denied : Denied L T r a d x y → ContradictionBytes L T (storedSystem (i + 1) L T a₀ d₀)
-    gone-denied f = f .none _ (holds-more (lent .rows) (lent .symbols) (u .holds) one-more)
-
--- nothing past the equations so far changed
-pub put-only : {L T r : ℕ} {ps a d ps₁ a₁ d₁ : List ℕ} (i : ℕ) → r ≤ i → ((c : ℕ) × (c < L) × PutIn L T r c ps a d ps₁ a₁ d₁)
-    → OnlyBelow ((i + 1) * L) a a₁ × OnlyBelow ((i + 1) * T) d d₁
-put-only {r = r} i l (c, h, p) = (only-row r (i + 1) (omega arith) (p .rows), only-row r (i + 1) (omega arith) (p .symbols))
-
-pub still-only : {ps a d ps₁ a₁ d₁ : List ℕ} (n m : ℕ) → Still ps a d ps₁ a₁ d₁ → OnlyBelow n a a₁ × OnlyBelow m d d₁
-still-only n m s = rw (s .rows, s .symbols) (only-refl, only-refl)
+    pub gone : (ps₁ a₁ d₁ : List ℕ) (k : Taken) → Became L T r ps a d x y ps₁ a₁ d₁ k → Gone L T (i + 1) ps₁ a₀ d₀ a₁ d₁ (progressed r k)
+    gone ps₁ a₁ d₁ Held (h, p, q) =
+        let j = q (u .stands) in
+        under (r + 1) ps₁ a₁ d₁ (omega (arith, u .enough)) (j .stands) (j .says R more) (became-only L T ps a d x y ps₁ a₁ d₁ (u .enough) Held (h, p, q))
+    gone ps₁ a₁ d₁ Dependent (s, q) =
+        rw (s .pivots, s .rows, s .symbols) (under r ps a d (omega (arith, u .enough)) (u .stands) (q (u .stands) .says R more) (only-refl, only-refl))
+    gone ps₁ a₁ d₁ Clash (s, q) = q (u .stands) .none R more
 
 -- ---- all are taken
 
@@ -130,14 +122,7 @@ gone-more L T a₀ d₀ l c = contradiction-remains (λ k h. (k, omega arith, re
 -- what no set fits stays so for every system that the stores held
 pub answered-clash : {M L T : ℕ} (a d o : List ℕ) {a₁ d₁ : List ℕ} → Bytes d → ContradictionBytes L T (storedSystem M L T a d) → Written (λ _. 0) a a₁ 0 (M * L)
     → Written (λ _. 0) d d₁ 0 (M * T) → Answered M L T a d o a₁ d₁ o Contradiction
-answered-clash {M} {L} {T} a d o bd u wa wd = record {
-  answer = λ S small first. (record { none = λ C b f. u .none C b (fits S first C f) }, refl);
-  rows = wa;
-  symbols = wd;
-}
-  where
-    fits : (S : System ℕ) → Holds M L T S a d → (C : List ℕ) → FitsBytes L T S C → FitsBytes L T (storedSystem M L T a d) C
-    fits S first C f = bytes-of-fits L T (storedSystem M L T a d) (record { below = λ i l t q. bd _ }) C (fits-follows octets L T (first .to) (fits-of-bytes L T S f))
+answered-clash a d o bd u wa wd = record { answer = λ S small first. (held-denied first bd u, refl); rows = wa; symbols = wd }
 
 -- what r held equations come to, in the stores a₂ and d₂
 pub answered-held : {M L T r : ℕ} (ps a d o a₂ d₂ : List ℕ) {a₁ d₁ o₁ : List ℕ} (v : Verdict) → 0 < T → Under L T M r ps a d a₂ d₂

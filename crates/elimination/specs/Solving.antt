@@ -2,13 +2,15 @@
 -- Assumes nothing.
 use mathlib.Core.Path.{_≡_}
 use mathlib.Core.List.{List}
-use Prim.Native.Nat.{ℕ, _-_, _*_, _≤_, _<_}
+use Prim.Native.Nat.{ℕ, _+_, _-_, _*_, _≤_, _<_}
 use Rattle.linear.specs.Bytes.{storedSystem, ContradictionBytes}
 use Rattle.linear.specs.Rows.{OnlyBelow}
 use Rattle.linear.specs.Elimination.{Holds, Stepped}
 use Rattle.elimination.specs.Steps.{column}
 use Rattle.elimination.specs.declared.beneath.solving.Progress.{Progress}
 use Rattle.elimination.specs.declared.beneath.solving.Progress.the-variants as Progresses
+use Rattle.elimination.specs.declared.beneath.taking.Taken.{Taken}
+use Rattle.elimination.specs.declared.beneath.taking.Taken.the-variants as Takens
 use Rattle.elimination.specs.declared.verdict.Verdict.{Verdict}
 use Rattle.elimination.specs.declared.verdict.Verdict.the-variants.{Solved, Contradiction, Open}
 
@@ -19,6 +21,12 @@ pub record Under (L T i r : ℕ) (ps a₀ d₀ a d : List ℕ) : Type 0 where
   pub holds : Holds r L T (storedSystem i L T a₀ d₀) a d
   pub rows : OnlyBelow (i * L) a₀ a
   pub symbols : OnlyBelow (i * T) d₀ d
+
+-- how many are held then
+abbrev pub progressed : ℕ → Taken → Progress
+progressed r Takens.Held = Progresses.Held (r + 1)
+progressed r Takens.Dependent = Progresses.Held r
+progressed r Takens.Clash = Progresses.Clash
 
 -- when i equations were taken
 abbrev pub Gone : (L T i : ℕ) (ps a₀ d₀ a d : List ℕ) → Progress → Type 0

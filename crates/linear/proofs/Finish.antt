@@ -48,6 +48,13 @@ pub held-fits : {M L T : ℕ} {S : System ℕ} {a d : List ℕ} (o : List ℕ) �
     → FitsBytes L T S o
 held-fits {M} {L} {T} {S} {a} {d} o h small f = bytes-of-fits L T S small o (fits-follows octets L T (h .back) (fits-of-bytes L T (storedSystem M L T a d) f))
 
+-- and where none fits them, none fits it
+pub held-denied : {M L T : ℕ} {S : System ℕ} {a d : List ℕ} → Holds M L T S a d → Bytes d → ContradictionBytes L T (storedSystem M L T a d) → ContradictionBytes L T S
+held-denied {M} {L} {T} {S} {a} {d} h bd c = record { none = λ C b f. c .none C b (fits C f) }
+  where
+    fits : (C : List ℕ) → FitsBytes L T S C → FitsBytes L T (storedSystem M L T a d) C
+    fits C f = bytes-of-fits L T (storedSystem M L T a d) (record { below = λ i l t q. bd _ }) C (fits-follows octets L T (h .to) (fits-of-bytes L T S f))
+
 -- ---- the shortfall: held rows are independent
 
 module _ {L r : ℕ} {pivot : ℕ → ℕ} {a d : List ℕ} (s : Stepped L r pivot a d) where

@@ -9,7 +9,7 @@ ghost use Rattle.linear.specs.Rows.{OnlyBelow};
 ghost use Rattle.linear.specs.Elimination.{Stepped};
 ghost use Rattle.elimination.specs.Steps.{Pivots, StoresRoom, column};
 ghost use Rattle.elimination.specs.Taking.{Wide};
-ghost use Rattle.elimination.specs.Solving.{HeldVerdict, Gone, Under};
+ghost use Rattle.elimination.specs.Solving.{Gone, HeldVerdict, Under, progressed};
 ghost use Rattle.elimination.specs.Verdict.{Answered};
 use crate::beneath::rows;
 use crate::beneath::settling;
@@ -22,6 +22,18 @@ use field::beneath::runs;
 pub enum Progress {
     Held(usize),
     Clash,
+}
+
+// How many are held, with r before.
+fn held_now(r: usize, x: Taken) -> Progress
+    requires { ⌜ r ≤ 65535 ⌝ }
+    ensures { λ p. ⌜ p ≡ progressed r x ⌝ }
+{
+    match x {
+        Taken::Held => Progress::Held(r + 1),
+        Taken::Dependent => Progress::Held(r),
+        Taken::Clash => Progress::Clash,
+    }
 }
 
 // Takes equation i, with r of those before it held in front of it.
@@ -44,11 +56,7 @@ fn advance(
 {
     rows::copy_row(rows, row, l, 0, i);
     rows::copy_row(values, symbol, t, 0, i);
-    match taking::take(rows, values, pivots, l, t, r, row, symbol) {
-        Taken::Held => Progress::Held(r + 1),
-        Taken::Dependent => Progress::Held(r),
-        Taken::Clash => Progress::Clash,
-    }
+    held_now(r, taking::take(rows, values, pivots, l, t, r, row, symbol))
 }
 
 // Takes all m equations.

@@ -2,9 +2,9 @@
 -- Assumes nothing.
 use mathlib.Core.Path.{_∙_}
 use native.Mathlib.Omega.{arith}
-use borrow.Author.Needs.{needs}
 use Rattle.linear.proofs.Elimination.{rank-at-most}
-use Rattle.elimination.proofs.Solving.{lent-held, place-next, gone-held, gone-still, gone-denied, put-only, still-only}
+use Rattle.elimination.proofs.Solving.{lent-held, place-next, gone, became-only}
+use borrow.Author.Needs.{needs}
 use Rattle.elimination.proofs.beneath.solving.advance.Statement.{statement}
 use Rattle.elimination.proofs.beneath.solving.advance.Tie as tie
 
@@ -23,19 +23,10 @@ take-requires c κs =
       (rank-at-most (s .pre .1), s .pre .0 .1 .small, λ h. place-next (s .pre .0 .3) (s .pre .0 .0) (s .pre .0 .1) h),
     )
 
-enum-told : tie.Need-enum-told
-enum-told c = search needs
-
-add-t31 : tie.Need-add-t31
-add-t31 c =
-    let s = c .before .before .before .before .before .before .before .before .before .before .before .before .before .before .before .before .before .before .before .before .before .before .before .before .before .before .before .before .before .before .before .before .before in
+held-now-requires : tie.Need-held-now-requires
+held-now-requires c κs =
+    let s = c .before .before .before .before .before .before .before .before .before .before .before .before .before .before .before .before .before .before .before .before .before .before .before .before .before .before .before .before .before .before .before in
     omega (arith, rank-at-most (s .pre .1), s .pre .0 .1 .small)
-
-enum-told-2 : tie.Need-enum-told-2
-enum-told-2 c = search needs
-
-enum-told-3 : tie.Need-enum-told-3
-enum-told-3 c = search needs
 
 same-length : tie.Need-same-length
 same-length c = search needs
@@ -54,60 +45,16 @@ same-length-5 c = search needs
 
 returns : tie.Need-returns
 returns c =
-    let s = c .before .before .before .before .before .before .before .before .before .before .before .before .before .before .before .before .before .before .before .before .before .before .before .before .before .before .before .before .before .before .before .before .before in
-    let m = rw (c .enum-told .given .1) at (c .before .before .before .before .before .before .before .before .before .before .before .before .take .ensures) in
-    let x = c .before .before .before .before .before .before .before .before .before .before .before .before .before .before .before .before .before .before .before .before .before .before .before .before .before .copy-row .ensures in
-    let y = c .before .before .before .before .before .before .before .before .before .before .before .before .before .before .before .before .before .before .before .before .copy-row2 .ensures in
-    let lent = lent-held _ (omega (arith, s .pre .0 .3)) (s .pre .0 .0) (s .pre .0 .1) (s .pre .1) in
-    (put-only (s .args .i) (s .pre .0 .3) (m .1), λ a₀ d₀ u. gone-held _ _ u x y lent (m .1) (m .2 (s .pre .1)))
-
-same-length-6 : tie.Need-same-length-6
-same-length-6 c = search needs
-
-same-length-7 : tie.Need-same-length-7
-same-length-7 c = search needs
-
-same-length-8 : tie.Need-same-length-8
-same-length-8 c = search needs
-
-same-length-9 : tie.Need-same-length-9
-same-length-9 c = search needs
-
-same-length-10 : tie.Need-same-length-10
-same-length-10 c = search needs
-
-returns-2 : tie.Need-returns-2
-returns-2 c =
-    let s = c .before .before .before .before .before .before .before .before .before .before .before .before .before .before .before .before .before .before .before .before .before .before .before .before .before .before .before .before .before .before .before .before .before in
-    let m = rw (c .enum-told2 .given .1) at (c .before .before .before .before .before .before .before .before .before .before .before .before .take .ensures) in
-    let x = c .before .before .before .before .before .before .before .before .before .before .before .before .before .before .before .before .before .before .before .before .before .before .before .before .before .copy-row .ensures in
-    let y = c .before .before .before .before .before .before .before .before .before .before .before .before .before .before .before .before .before .before .before .before .copy-row2 .ensures in
-    let lent = lent-held _ (omega (arith, s .pre .0 .3)) (s .pre .0 .0) (s .pre .0 .1) (s .pre .1) in
-    (still-only _ _ (m .0), λ a₀ d₀ u. gone-still _ _ u x y lent (m .0) (m .1 (s .pre .1)))
-
-same-length-11 : tie.Need-same-length-11
-same-length-11 c = search needs
-
-same-length-12 : tie.Need-same-length-12
-same-length-12 c = search needs
-
-same-length-13 : tie.Need-same-length-13
-same-length-13 c = search needs
-
-same-length-14 : tie.Need-same-length-14
-same-length-14 c = search needs
-
-same-length-15 : tie.Need-same-length-15
-same-length-15 c = search needs
-
-returns-3 : tie.Need-returns-3
-returns-3 c =
-    let s = c .before .before .before .before .before .before .before .before .before .before .before .before .before .before .before .before .before .before .before .before .before .before .before .before .before .before .before .before .before .before .before .before .before in
-    let m = rw (c .enum-told3 .given .1) at (c .before .before .before .before .before .before .before .before .before .before .before .before .take .ensures) in
-    let x = c .before .before .before .before .before .before .before .before .before .before .before .before .before .before .before .before .before .before .before .before .before .before .before .before .before .copy-row .ensures in
-    let y = c .before .before .before .before .before .before .before .before .before .before .before .before .before .before .before .before .before .before .before .before .copy-row2 .ensures in
-    let lent = lent-held _ (omega (arith, s .pre .0 .3)) (s .pre .0 .0) (s .pre .0 .1) (s .pre .1) in
-    (still-only _ _ (m .0), λ a₀ d₀ u. gone-denied _ _ u x y lent (m .1 (s .pre .1)))
+    let s = c .before .before .before .before .before .before .before .before .before .before .before .before .before .before .before .before .before .before .before .before .before .before .before .before .before .before .before .before .before .before .before .before in
+    let a = s .args in
+    let k = c .before .before .before .before .before .before .before .before .before .before .before .take in
+    let x = c .before .before .before .before .before .before .before .before .before .before .before .before .before .before .before .before .before .before .before .before .before .before .before .before .copy-row in
+    let y = c .before .before .before .before .before .before .before .before .before .before .before .before .before .before .before .before .before .before .before .copy-row2 in
+    let lent = lent-held _ (omega (arith, s .pre .0 .3)) (s .pre .0 .0) (s .pre .0 .1) (s .pre .1) in (
+      became-only (a .l) (a .t) (a .pivots .now) (a .rows .now) (a .values .now) (x .last .1 .0) (y .last .1 .0) (k .last .1 .1 .0) (k .last .0) (k .last .1 .0)
+          (s .pre .0 .3) (k .result) (k .ensures),
+      λ a₀ d₀ u. rw (c .held-now .ensures) (gone _ _ u (x .ensures) (y .ensures) lent (k .last .1 .1 .0) (k .last .0) (k .last .1 .0) (k .result) (k .ensures)),
+    )
 
 pub advance-spec : {M : Type 1} → statement M
 advance-spec =
@@ -116,25 +63,10 @@ advance-spec =
     copy-row-requires
     copy-row-requires-2
     take-requires
-    enum-told
-    add-t31
-    enum-told-2
-    enum-told-3
+    held-now-requires
     same-length
     same-length-2
     same-length-3
     same-length-4
     same-length-5
-    returns
-    same-length-6
-    same-length-7
-    same-length-8
-    same-length-9
-    same-length-10
-    returns-2
-    same-length-11
-    same-length-12
-    same-length-13
-    same-length-14
-    same-length-15
-    returns-3)
+    returns)
