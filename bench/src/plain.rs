@@ -57,7 +57,13 @@ fn add_row(to: &mut [u8], from: &[u8], by: u8) {
 
 /// Where a sum of rows begins that are 0 before column c: at c, or so much before it that vector code takes what is left whole.
 fn begin(l: usize, c: usize) -> usize {
-    c.saturating_sub((16 - (l - c) % 16) % 16)
+    c.saturating_sub((32 - (l - c) % 32) % 32)
+}
+
+/// The first column in which a row is not 0. What is 0 at the front is passed over by blocks, which are looked at whole.
+fn first_other(row: &[u8]) -> Option<usize> {
+    let blank = 64 * row.chunks_exact(64).take_while(|block| block.iter().copied().fold(0, u8::max) == 0).count();
+    row[blank..].iter().position(|x| *x != 0).map(|x| blank + x)
 }
 
 fn scale(row: &mut [u8], by: u8) {
@@ -100,7 +106,7 @@ impl System<'_> {
         self.row.copy_from_slice(&self.rows[i * l..][..l]);
         self.symbol.copy_from_slice(&self.values[i * t..][..t]);
         self.sift();
-        let Some(c) = self.row.iter().position(|x| *x != 0) else {
+        let Some(c) = first_other(&self.row) else {
             return self.symbol.iter().all(|x| *x == 0);
         };
         self.make_one(c);

@@ -10,9 +10,10 @@ use borrow.Author.Tests.{eq-eqb, ne-eqb}
 use lib.ListN.{length, getD}
 use Rattle.field.specs.Octet.{doubled, copies, times, squares, inverse, over}
 use Rattle.field.specs.Answer.{given, refused, divided}
-use Rattle.field.specs.Runs.{Apart, Written}
+use Rattle.field.specs.Runs.{Apart, Blank, Written}
 use Rattle.field.proofs.Laws.{one-times, inverse-lt}
 use Rattle.field.proofs.Parts.{block-ends, blocks-apart}
+use Rattle.elimination.specs.Steps.{FirstOther}
 
 -- ---- where
 
@@ -37,6 +38,14 @@ zeros-more f {from} {x} h z k l b = go (decLt k x)
     go : Dec (k < x) → f k ≡ 0
     go (yes q) = h k q b
     go (no q) = let e : k ≡ x = omega arith in ap f e ∙ z
+
+-- what is found past n places that are 0 is the first of all
+pub first-past : {xs : List ℕ} {n to x : ℕ} → Blank n xs → FirstOther xs n to x → FirstOther xs 0 to x
+first-past {xs} {n} {x = x} b f = record { least = omega arith; most = f .most; zeros = λ k h l. go k h (decLt k n); other = f .other }
+  where
+    go : (k : ℕ) → k < x → Dec (k < n) → getD xs k 0 ≡ 0
+    go k h (yes l) = b k l
+    go k h (no l) = f .zeros k h (omega arith)
 
 -- ---- the inverse
 

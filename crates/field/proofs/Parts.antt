@@ -1,6 +1,6 @@
 -- Memory written part by part: a lent part that came back, and one run of writing after another.
 -- Assumes nothing.
-use mathlib.Core.Path.{_≡_, sym, ap, _∙_}
+use mathlib.Core.Path.{_≡_, sym, ap, subst, _∙_}
 use mathlib.Core.List.{List, _++_}
 use mathlib.Core.Logic.{_⊎_, inl, inr}
 use Prim.Native.Nat.{ℕ, _+_, _-_, _*_, _≤_, _<_}
@@ -9,7 +9,7 @@ use native.Mathlib.Decide.{decLt}
 use native.Mathlib.Omega.{arith}
 use lib.ListN.{length, getD, take, drop, length-append, length-drop, List·getD-append}
 use lib.Seq.{take-at, take-length, length-take-le, getD-append-add, getD-take, getD-drop, drop-drop}
-use Rattle.field.specs.Runs.{Written}
+use Rattle.field.specs.Runs.{AtMost, Blank, Written}
 
 -- the part from `from` to `from + n`, as a loan has it
 pub part-is : (xs : List ℕ) (from n : ℕ) → take (from + n - from) (drop from xs) ≡ take n (drop from xs)
@@ -20,6 +20,18 @@ part-length xs from n h = length-take-le n (drop from xs) (simp length-drop (ome
 
 pub part-at : (xs : List ℕ) (from n k : ℕ) → k < n → getD (take n (drop from xs)) k 0 ≡ getD xs (from + k) 0
 part-at xs from n k h = getD-take n (drop from xs) k 0 h ∙ getD-drop from xs k 0
+
+-- n places are 0, and no octet of the m behind them is above 0
+pub blank-more : (xs : List ℕ) (n m : ℕ) {x : ℕ} → n + m ≤ length xs → Blank n xs → AtMost x (take (n + m - n) (drop n xs)) → x ≤ 0 → Blank (n + m) xs
+blank-more xs n m {x} fits b a e k h = go (decLt k n)
+  where
+    go : Dec (k < n) → getD xs k 0 ≡ 0
+    go (yes l) = b k l
+    go (no l) =
+        let i : n + (k - n) ≡ k = omega arith in
+        let q = subst (AtMost x) (part-is xs n m) a (k - n) (omega (arith, part-length xs n m fits)) in
+        let z : getD xs (n + (k - n)) 0 ≡ 0 = omega (arith, q, part-at xs n m (k - n) (omega arith)) in
+        ap (λ (j : ℕ). getD xs j 0) (sym i) ∙ z
 
 -- what the whole is when its part of n places at `to` has become zs
 abbrev pub splice : List ℕ → ℕ → ℕ → List ℕ → List ℕ

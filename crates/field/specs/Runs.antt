@@ -37,3 +37,7 @@ fused d at c s k = plus (getD d (at + k) 0) (times c (getD s k 0))
 -- no octet of xs is larger than m
 abbrev pub AtMost : ℕ → List ℕ → Type 0
 AtMost m xs = (k : ℕ) → k < length xs → getD xs k 0 ≤ m
+
+-- the first n octets of xs are 0
+abbrev pub Blank : ℕ → List ℕ → Type 0
+Blank n xs = (k : ℕ) → k < n → getD xs k 0 ≡ 0

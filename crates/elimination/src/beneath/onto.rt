@@ -12,7 +12,7 @@ fn begin(l: usize, c: usize) -> usize
     requires { ⌜ c < l ⌝ }
     ensures { λ s. ⌜ s ≤ c ⌝ }
 {
-    let back = (16 - (l - c) % 16) % 16;
+    let back = (32 - (l - c) % 32) % 32;
     if c < back {
         return 0;
     }

@@ -7,6 +7,7 @@ ghost use Rattle.elimination.specs.Steps.{column};
 ghost use Rattle.elimination.specs.Taking.{Lent, Wide, RoomForOne, Swept, Sought, PutIn, Lodged, Became};
 use crate::beneath::onto;
 use crate::beneath::rows;
+use field::beneath::runs;
 
 // What became of the equation.
 pub enum Taken {
@@ -45,7 +46,7 @@ fn seek(row: &[u8], l: usize, r: usize) -> usize
     if l <= r {
         return l;
     }
-    rows::first_other(row, 0, l)
+    rows::first_other(row, runs::blank(row), l)
 }
 
 // The equation, which is not 0 in column c, gets place r and that pivot.

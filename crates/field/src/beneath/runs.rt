@@ -4,7 +4,7 @@ ghost use mathlib.Core.Path.{_≡_};
 ghost use Prim.Native.Nat.{_+_, _<_, _≤_};
 ghost use lib.ListN.{length};
 ghost use Rattle.field.specs.Octet.{times};
-ghost use Rattle.field.specs.Runs.{AtMost, Written, added, fused, scaled};
+ghost use Rattle.field.specs.Runs.{AtMost, Blank, Written, added, fused, scaled};
 use crate::doubling;
 
 // 0 at n places, from place `at` of dst on
@@ -74,6 +74,21 @@ fn most(src: &[u8]) -> u8
         i += 1;
     }
     x
+}
+
+// So many octets at the front are 0, and perhaps more: blocks are looked at whole, which is faster than octet by octet.
+pub fn blank(src: &[u8]) -> usize
+    ensures { λ n. ⌜ (n ≤ length (now (src .entry))) × Blank n (now (src .entry)) ⌝ }
+{
+    let mut n = 0;
+    while 64 <= src.len() - n {
+        let end = n + 64;
+        if most(&src[n..end]) > 0 {
+            return n;
+        }
+        n = end;
+    }
+    n
 }
 
 // c times 0 or 1
