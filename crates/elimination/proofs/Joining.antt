@@ -11,6 +11,7 @@ use lib.Bits.{xor-lt}
 use lib.ListN.{length, getD, set, length-set}
 use lib.Seq.{getD-set-same, getD-set-other}
 use Rattle.field.specs.Octet.{plus, times, inverse}
+use Rattle.field.specs.Runs.{FirstOther}
 use Rattle.field.proofs.Laws.{times-lt, times-zero, times-comm, inverse-times}
 use Rattle.field.proofs.Writing.{written-as}
 use Rattle.linear.specs.Field.{Field}
@@ -28,7 +29,7 @@ use Rattle.linear.proofs.Behind.{behind-new, behind-row, behind-bytes, behind-w
 use Rattle.linear.proofs.Elimination.{stepped-agree, stepped-more, off-more, room}
 use Rattle.linear.proofs.Keeping.{keeps-refl, keeps-trans, keeps-added, keeps-scaled, holds-kept, holds-agree}
 use Rattle.linear.proofs.Finish.{clash}
-use Rattle.elimination.specs.Steps.{Passed, FirstOther, column}
+use Rattle.elimination.specs.Steps.{Passed, column}
 use Rattle.elimination.specs.Taking.{Lent, RoomForOne, Wide, Onto, OntoFrom, Times, Swept, Sought, Fresh, PutIn, Lodged, Followed, Denied}
 use Rattle.elimination.proofs.Buffers.{written-long, onto-all}
 open Field octets using (𝟘)

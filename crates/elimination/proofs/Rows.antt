@@ -10,10 +10,9 @@ use borrow.Author.Tests.{eq-eqb, ne-eqb}
 use lib.ListN.{length, getD}
 use Rattle.field.specs.Octet.{doubled, copies, times, squares, inverse, over}
 use Rattle.field.specs.Answer.{given, refused, divided}
-use Rattle.field.specs.Runs.{Apart, Blank, Written}
+use Rattle.field.specs.Runs.{Apart, Written}
 use Rattle.field.proofs.Laws.{one-times, inverse-lt}
 use Rattle.field.proofs.Parts.{block-ends, blocks-apart}
-use Rattle.elimination.specs.Steps.{FirstOther}
 
 -- ---- where
 
@@ -30,22 +29,6 @@ pub apart-still : {f : ℕ → ℕ} {xs ys : List ℕ} {w to from n : ℕ} → W
     → getD ys (from + c) 0 ≡ getD xs (from + c) 0
 apart-still {f} {xs} {ys} {w} {to} {from} {n} s a l c h =
     ⊎-elim (λ (p : to + w ≤ from). s .high (from + c) (omega arith)) (λ (p : from + w ≤ to). s .low (from + c) (omega arith)) (a .apart)
-
--- one place more that is 0
-pub zeros-more : (f : ℕ → ℕ) {from x : ℕ} → ((k : ℕ) → k < x → from ≤ k → f k ≡ 0) → f x ≡ 0 → (k : ℕ) → k < x + 1 → from ≤ k → f k ≡ 0
-zeros-more f {from} {x} h z k l b = go (decLt k x)
-  where
-    go : Dec (k < x) → f k ≡ 0
-    go (yes q) = h k q b
-    go (no q) = let e : k ≡ x = omega arith in ap f e ∙ z
-
--- what is found past n places that are 0 is the first of all
-pub first-past : {xs : List ℕ} {n to x : ℕ} → Blank n xs → FirstOther xs n to x → FirstOther xs 0 to x
-first-past {xs} {n} {x = x} b f = record { least = omega arith; most = f .most; zeros = λ k h l. go k h (decLt k n); other = f .other }
-  where
-    go : (k : ℕ) → k < x → Dec (k < n) → getD xs k 0 ≡ 0
-    go k h (yes l) = b k l
-    go k h (no l) = f .zeros k h (omega arith)
 
 -- ---- the inverse
 

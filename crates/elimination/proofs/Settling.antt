@@ -5,6 +5,7 @@ use mathlib.Core.List.{List}
 use Prim.Native.Nat.{ℕ, _+_, _-_, _*_, _≤_, _<_}
 use native.Mathlib.Omega.{arith}
 use lib.ListN.{length, getD}
+use Rattle.field.specs.Runs.{FirstOther}
 use Rattle.linear.specs.Bytes.{Bytes}
 use Rattle.linear.specs.Back.{Brought, MetFrom}
 use Rattle.linear.specs.Rows.{RowAdded, OnlyBelow}
@@ -12,7 +13,7 @@ use Rattle.linear.specs.Elimination.{Stepped}
 use Rattle.linear.proofs.Back.{brought-past, brought-row, met-fits}
 use Rattle.linear.proofs.Finish.{stepped-solved, front-block, front-fits}
 use Rattle.linear.proofs.Rows.{only-refl}
-use Rattle.elimination.specs.Steps.{FirstOther, column}
+use Rattle.elimination.specs.Steps.{column}
 use Rattle.elimination.specs.Settling.{Settles}
 
 -- row q, which begins at q * L in its store, is 0 from column n on up to place x

@@ -1,7 +1,6 @@
--- Where rows, symbols and pivots stand, and what a search along a row finds.
+-- Where rows, symbols and pivots stand, and what a search along the pivots finds.
 -- Assumes nothing.
 use mathlib.Core.Path.{_≡_}
-use mathlib.Core.Logic.{_≢_}
 use mathlib.Core.List.{List}
 use Prim.Native.Nat.{ℕ, _*_, _≤_, _<_}
 use lib.ListN.{length, getD}
@@ -19,13 +18,6 @@ column ps k = getD ps k 0
 pub record Pivots (L : ℕ) (ps : List ℕ) : Type 0 where
   pub enough : L ≤ length ps
   pub small : L ≤ 65535
-
--- x is the first place from `from` on that is not 0, or it is `to`
-pub record FirstOther (xs : List ℕ) (from to x : ℕ) : Type 0 where
-  pub least : from ≤ x
-  pub most : x ≤ to
-  pub zeros : (k : ℕ) → k < x → from ≤ k → getD xs k 0 ≡ 0
-  pub other : x < to → getD xs x 0 ≢ 0
 
 -- x is a number of a pivot from k on, or r, and the row is 0 at the pivots before it
 pub record Passed (xs ps : List ℕ) (k r x : ℕ) : Type 0 where

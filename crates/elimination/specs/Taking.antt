@@ -7,12 +7,12 @@ use mathlib.Core.List.{List}
 use Prim.Native.Nat.{ℕ, _+_, _-_, _*_, _≤_, _<_}
 use lib.ListN.{length, getD}
 use Rattle.field.specs.Octet.{plus, times}
-use Rattle.field.specs.Runs.{Written}
+use Rattle.field.specs.Runs.{FirstOther, Written}
 use Rattle.linear.specs.System.{System}
 use Rattle.linear.specs.Bytes.{Bytes, cell, symbols, ContradictionBytes}
 use Rattle.linear.specs.Rows.{behind}
 use Rattle.linear.specs.Elimination.{Holds, Keeps, Stepped}
-use Rattle.elimination.specs.Steps.{FirstOther, column}
+use Rattle.elimination.specs.Steps.{column}
 use Rattle.elimination.specs.declared.beneath.taking.Taken.{Taken}
 use Rattle.elimination.specs.declared.beneath.taking.Taken.the-variants.{Held, Dependent, Clash}
 

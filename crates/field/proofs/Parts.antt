@@ -21,16 +21,24 @@ part-length xs from n h = length-take-le n (drop from xs) (simp length-drop (ome
 pub part-at : (xs : List ℕ) (from n k : ℕ) → k < n → getD (take n (drop from xs)) k 0 ≡ getD xs (from + k) 0
 part-at xs from n k h = getD-take n (drop from xs) k 0 h ∙ getD-drop from xs k 0
 
--- n places are 0, and no octet of the m behind them is above 0
-pub blank-more : (xs : List ℕ) (n m : ℕ) {x : ℕ} → n + m ≤ length xs → Blank n xs → AtMost x (take (n + m - n) (drop n xs)) → x ≤ 0 → Blank (n + m) xs
-blank-more xs n m {x} fits b a e k h = go (decLt k n)
+-- all is 0 before x, and it is 0 there
+pub blank-next : (xs : List ℕ) {from x : ℕ} → Blank xs from x → getD xs x 0 ≡ 0 → Blank xs from (x + 1)
+blank-next xs {x = x} b z k h l = go (decLt k x)
   where
-    go : Dec (k < n) → getD xs k 0 ≡ 0
-    go (yes l) = b k l
-    go (no l) =
-        let i : n + (k - n) ≡ k = omega arith in
-        let q = subst (AtMost x) (part-is xs n m) a (k - n) (omega (arith, part-length xs n m fits)) in
-        let z : getD xs (n + (k - n)) 0 ≡ 0 = omega (arith, q, part-at xs n m (k - n) (omega arith)) in
+    go : Dec (k < x) → getD xs k 0 ≡ 0
+    go (yes q) = b k q l
+    go (no q) = let e : k ≡ x = omega arith in ap (λ (j : ℕ). getD xs j 0) e ∙ z
+
+-- all is 0 before x, and no octet of the n behind it is above 0
+pub blank-part : (xs : List ℕ) {from : ℕ} (x n : ℕ) {m : ℕ} → x + n ≤ length xs → Blank xs from x → AtMost m (take (x + n - x) (drop x xs)) → m ≤ 0 → Blank xs from (x + n)
+blank-part xs x n {m} fits b a e k h l = go (decLt k x)
+  where
+    go : Dec (k < x) → getD xs k 0 ≡ 0
+    go (yes q) = b k q l
+    go (no q) =
+        let i : x + (k - x) ≡ k = omega arith in
+        let u = subst (AtMost m) (part-is xs x n) a (k - x) (omega (arith, part-length xs x n fits)) in
+        let z : getD xs (x + (k - x)) 0 ≡ 0 = omega (arith, u, part-at xs x n (k - x) (omega arith)) in
         ap (λ (j : ℕ). getD xs j 0) (sym i) ∙ z
 
 -- what the whole is when its part of n places at `to` has become zs

@@ -2,7 +2,7 @@
 -- Assumes nothing.
 use mathlib.Core.Path.{_≡_}
 use mathlib.Core.List.{List}
-use mathlib.Core.Logic.{_⊎_}
+use mathlib.Core.Logic.{_⊎_, _≢_}
 use Prim.Native.Nat.{ℕ, _+_, _≤_, _<_}
 use lib.ListN.{length, getD, take, drop}
 use Rattle.field.specs.Octet.{plus, times}
@@ -38,6 +38,13 @@ fused d at c s k = plus (getD d (at + k) 0) (times c (getD s k 0))
 abbrev pub AtMost : ℕ → List ℕ → Type 0
 AtMost m xs = (k : ℕ) → k < length xs → getD xs k 0 ≤ m
 
--- the first n octets of xs are 0
-abbrev pub Blank : ℕ → List ℕ → Type 0
-Blank n xs = (k : ℕ) → k < n → getD xs k 0 ≡ 0
+-- the octets of xs from `from` on, before x, are 0
+abbrev pub Blank : List ℕ → ℕ → ℕ → Type 0
+Blank xs from x = (k : ℕ) → k < x → from ≤ k → getD xs k 0 ≡ 0
+
+-- x is the first place from `from` on that is not 0, or it is `to`
+pub record FirstOther (xs : List ℕ) (from to x : ℕ) : Type 0 where
+  pub least : from ≤ x
+  pub most : x ≤ to
+  pub zeros : Blank xs from x
+  pub other : x < to → getD xs x 0 ≢ 0

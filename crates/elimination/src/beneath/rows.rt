@@ -2,7 +2,7 @@
 ghost use Prim.Native.Nat.{ℕ, _+_, _*_, _≤_, _<_};
 ghost use lib.ListN.{length};
 ghost use Rattle.linear.specs.Rows.{RowCopied};
-ghost use Rattle.elimination.specs.Steps.{FirstOther, Passed, column};
+ghost use Rattle.elimination.specs.Steps.{Passed, column};
 
 // Row k of one store goes over row i of another.
 pub fn copy_row(source: &[u8], store: &mut [u8], w: usize, i: usize, k: usize)
@@ -16,21 +16,6 @@ pub fn copy_row(source: &[u8], store: &mut [u8], w: usize, i: usize, k: usize)
         store[to + c] = source[from + c];
         c += 1;
     }
-}
-
-// The first place from `from` on that is not 0, or `to`.
-pub fn first_other(store: &[u8], from: usize, to: usize) -> usize
-    requires { ⌜ (from ≤ to) × (to ≤ length (now store)) ⌝ }
-    ensures { λ x. ⌜ FirstOther (now (store .entry)) from to x ⌝ }
-{
-    let mut x = from;
-    while x < to {
-        if store[x] != 0 {
-            return x;
-        }
-        x += 1;
-    }
-    x
 }
 
 // The first pivot from number k on at which the row is not 0, or r. Most are passed over here, and a call for each would take longer than the look.

@@ -7,6 +7,7 @@ ghost use Rattle.elimination.specs.Settling.{Settles};
 ghost use Rattle.elimination.specs.Taking.{Lent};
 use crate::beneath::rows;
 use crate::beneath::within;
+use field::beneath::runs;
 
 // Symbol q goes to symbol p of the out store, and what row q has past column p goes onto it, times the symbols there. A held row is 0 before its
 // pivot, p, and what it has past it stands at pivots of later rows, so that these symbols are settled already.
@@ -18,10 +19,10 @@ fn bring(rows: &[u8], values: &[u8], l: usize, t: usize, q: usize, p: usize, out
     let start = q * l;
     let end = start + l;
     rows::copy_row(values, out, t, p, q);
-    let mut x = rows::first_other(rows, start + (p + 1), end);
+    let mut x = runs::first_other(rows, start + (p + 1), end);
     while x < end {
         within::add(out, t, p, x - start, rows[x]);
-        x = rows::first_other(rows, x + 1, end);
+        x = runs::first_other(rows, x + 1, end);
     }
 }
 

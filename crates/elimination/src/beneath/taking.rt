@@ -29,7 +29,8 @@ fn sift(
 )
     requires { ⌜ Lent l t r (now pivots) (now rows) (now values) × Wide l t (now row) (now symbol) ⌝ }
     ensures { λ _. ⌜ Wide l t (now (row .exit)) (now (symbol .exit)) ⌝ }
-    ensures { λ _. ⌜ (Stepped l r (column (now (pivots .entry))) (now (rows .entry)) (now (values .entry)) → Swept l t r r (now (pivots .entry)) (now (rows .entry)) (now (values .entry)) (now (row .entry)) (now (symbol .entry)) (now (row .exit)) (now (symbol .exit))) ⌝ }
+    ensures { λ _. ⌜ (Stepped l r (column (now (pivots .entry))) (now (rows .entry)) (now (values .entry))
+        → Swept l t r r (now (pivots .entry)) (now (rows .entry)) (now (values .entry)) (now (row .entry)) (now (symbol .entry)) (now (row .exit)) (now (symbol .exit))) ⌝ }
 {
     let mut k = rows::next_pivot(row, pivots, 0, r);
     while k < r {
@@ -46,7 +47,7 @@ fn seek(row: &[u8], l: usize, r: usize) -> usize
     if l <= r {
         return l;
     }
-    rows::first_other(row, runs::blank(row), l)
+    runs::first_other(row, 0, l)
 }
 
 // The equation, which is not 0 in column c, gets place r and that pivot.
@@ -63,7 +64,8 @@ fn hold(
 )
     requires { ⌜ RoomForOne l t r (now pivots) (now rows) (now values) × Wide l t (now row) (now symbol) × (c < l) × (l ≤ 65535) ⌝ }
     ensures { λ _. ⌜ PutIn l t r c (now (pivots .entry)) (now (rows .entry)) (now (values .entry)) (now (pivots .exit)) (now (rows .exit)) (now (values .exit)) ⌝ }
-    ensures { λ _. ⌜ Lodged l t r c (now (pivots .entry)) (now (rows .entry)) (now (values .entry)) (now (row .entry)) (now (symbol .entry)) (now (pivots .exit)) (now (rows .exit)) (now (values .exit)) ⌝ }
+    ensures { λ _. ⌜ Lodged l t r c (now (pivots .entry)) (now (rows .entry)) (now (values .entry)) (now (row .entry)) (now (symbol .entry))
+        (now (pivots .exit)) (now (rows .exit)) (now (values .exit)) ⌝ }
 {
     onto::make_one(row, symbol, c);
     pivots[r] = c as u16;
@@ -85,7 +87,8 @@ pub fn take(
 ) -> Taken
     requires { ⌜ Lent l t r (now pivots) (now rows) (now values) × Wide l t (now row) (now symbol) ⌝ }
     requires { ⌜ (r ≤ l) × (l ≤ 65535) × (r < l → RoomForOne l t r (now pivots) (now rows) (now values)) ⌝ }
-    ensures { λ x. ⌜ Became l t r (now (pivots .entry)) (now (rows .entry)) (now (values .entry)) (now (row .entry)) (now (symbol .entry)) (now (pivots .exit)) (now (rows .exit)) (now (values .exit)) x ⌝ }
+    ensures { λ x. ⌜ Became l t r (now (pivots .entry)) (now (rows .entry)) (now (values .entry)) (now (row .entry)) (now (symbol .entry))
+        (now (pivots .exit)) (now (rows .exit)) (now (values .exit)) x ⌝ }
 {
     sift(rows, values, pivots, l, t, r, row, symbol);
     let c = seek(row, l, r);
@@ -94,7 +97,7 @@ pub fn take(
         return Taken::Held;
     }
     // The row depends on those that are held: the symbol has to be what they make of it.
-    let y = rows::first_other(symbol, 0, t);
+    let y = runs::first_other(symbol, 0, t);
     if y < t {
         return Taken::Clash;
     }

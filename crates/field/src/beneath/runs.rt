@@ -4,7 +4,7 @@ ghost use mathlib.Core.Path.{_≡_};
 ghost use Prim.Native.Nat.{_+_, _<_, _≤_};
 ghost use lib.ListN.{length};
 ghost use Rattle.field.specs.Octet.{times};
-ghost use Rattle.field.specs.Runs.{AtMost, Blank, Written, added, fused, scaled};
+ghost use Rattle.field.specs.Runs.{AtMost, Blank, FirstOther, Written, added, fused, scaled};
 use crate::doubling;
 
 // 0 at n places, from place `at` of dst on
@@ -76,19 +76,35 @@ fn most(src: &[u8]) -> u8
     x
 }
 
-// So many octets at the front are 0, and perhaps more: blocks are looked at whole, which is faster than octet by octet.
-pub fn blank(src: &[u8]) -> usize
-    ensures { λ n. ⌜ (n ≤ length (now (src .entry))) × Blank n (now (src .entry)) ⌝ }
+// A place from `from` on, at most `to`, before which all is 0: blocks are looked at whole, which is faster than octet by octet.
+fn blank(src: &[u8], from: usize, to: usize) -> usize
+    requires { ⌜ (from ≤ to) × (to ≤ length (now src)) ⌝ }
+    ensures { λ x. ⌜ (from ≤ x) × (x ≤ to) × Blank (now (src .entry)) from x ⌝ }
 {
-    let mut n = 0;
-    while 64 <= src.len() - n {
-        let end = n + 64;
-        if most(&src[n..end]) > 0 {
-            return n;
+    let mut x = from;
+    while 64 <= to - x {
+        let end = x + 64;
+        if most(&src[x..end]) > 0 {
+            return x;
         }
-        n = end;
+        x = end;
     }
-    n
+    x
+}
+
+// The first place from `from` on that is not 0, or `to`.
+pub fn first_other(src: &[u8], from: usize, to: usize) -> usize
+    requires { ⌜ (from ≤ to) × (to ≤ length (now src)) ⌝ }
+    ensures { λ x. ⌜ FirstOther (now (src .entry)) from to x ⌝ }
+{
+    let mut x = blank(src, from, to);
+    while x < to {
+        if src[x] != 0 {
+            return x;
+        }
+        x += 1;
+    }
+    x
 }
 
 // c times 0 or 1

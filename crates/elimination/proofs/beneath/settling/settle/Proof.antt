@@ -57,15 +57,15 @@ loop-less c = search needs
 
 loop-again : tie.Need-loop-again Inv-loop μ-loop
 loop-again c =
-    let v = c .before .before .before .before .before .before .loop .inv in
-    let q = c .before .before .before .before .before .before .loop .q in
+    let v = c .before .before .before .before .before .before in
+    let q = v .loop .q in
     let b = c .before .before .bring .ensures in
-    let h : q - 1 < c .before .before .before .before .before .before .before .before .before .before .before .before .args .r = omega (arith, c .before .before .before .before .before .loop-test .taken, v .0) in
+    let h : q - 1 < v .before .before .before .before .before .before .args .r = omega (arith, c .before .before .before .before .before .loop-test .taken, v .loop .inv .0) in
     let e : q ≡ q - 1 + 1 = omega (arith, c .before .before .before .before .before .loop-test .taken) in (
-      omega (arith, v .0),
-      only-trans (v .1) (b .0),
+      omega (arith, v .loop .inv .0),
+      only-trans (v .loop .inv .1) (b .0),
       λ x. omega (arith, c .slice-known2 .given x),
-      λ s. met-more _ _ s h (λ x. omega (arith, c .slice-known2 .given x)) (b .1) (rw e at (v .3 s)),
+      λ s. met-more _ _ s h (λ x. omega (arith, c .slice-known2 .given x)) (b .1) (rw e at (v .loop .inv .3 s)),
     )
 
 same-length : tie.Need-same-length Inv-loop μ-loop

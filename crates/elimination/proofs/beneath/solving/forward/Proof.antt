@@ -31,11 +31,16 @@ loop-holds c =
 
 advance-requires : tie.Need-advance-requires Inv-loop μ-loop
 advance-requires c κs =
-    let s = c .before .before .before .before .before .before .before .before .before .before .before .before in
-    let v = c .before .before .before .before .before .before .loop .inv in
-    let h : c .before .before .before .before .before .before .loop .i + 1 ≤ s .args .m = omega (arith, c .before .before .before .before .before .loop-test .taken) in (
-      (room-kept (room-less h (s .pre .0)) (v .2 .rows .size) (v .2 .symbols .size), record { enough = omega (arith, s .pre .1 .enough, v .3); small = s .pre .1 .small }, v .1, v .2 .enough),
-      v .2 .stands,
+    let v = c .before .before .before .before .before .before in
+    let s = v .before .before .before .before .before .before in
+    let h : v .loop .i + 1 ≤ s .args .m = omega (arith, c .before .before .before .before .before .loop-test .taken) in (
+      (
+        room-kept (room-less h (s .pre .0)) (v .loop .inv .2 .rows .size) (v .loop .inv .2 .symbols .size),
+        record { enough = omega (arith, s .pre .1 .enough, v .loop .inv .3); small = s .pre .1 .small },
+        v .loop .inv .1,
+        v .loop .inv .2 .enough,
+      ),
+      v .loop .inv .2 .stands,
     )
 
 enum-known-p : tie.Need-enum-known-p Inv-loop μ-loop
@@ -44,58 +49,55 @@ enum-known-p c = search needs
 enum-told : tie.Need-enum-told Inv-loop μ-loop
 enum-told c = search needs
 
+-- from what `advance` left back to its call, to the test of the loop, and to its head
+abbrev call : tie.After-slice-known10 Inv-loop μ-loop → tie.After-advance Inv-loop μ-loop
+call x = x .before .before .before .before .before .before .before .before .before .before
+
+abbrev test : tie.After-slice-known10 Inv-loop μ-loop → tie.In-loop Inv-loop μ-loop
+test x = call x .before .before .before .before .before .before
+
+abbrev head : tie.After-slice-known10 Inv-loop μ-loop → tie.At-loop Inv-loop μ-loop
+head x = test x .before
+
 same-length : tie.Need-same-length Inv-loop μ-loop
-same-length c =
-    let v = c .before .before .before .before .before .before .before .before .before .before .before .before .before .before .before .before .before .before .before .loop .inv in
-    let e = c .before .before .before .before .before .before .before .before .before .before .before .before .advance in
-    omega (arith, v .2 .rows .size, e .ensures .0 .0 .size)
+same-length c = let x = c .before .before in omega (arith, head x .loop .inv .2 .rows .size, call x .advance .ensures .0 .0 .size)
 
 same-length-2 : tie.Need-same-length-2 Inv-loop μ-loop
-same-length-2 c =
-    let v = c .before .before .before .before .before .before .before .before .before .before .before .before .before .before .before .before .before .before .before .loop .inv in
-    let e = c .before .before .before .before .before .before .before .before .before .before .before .before .advance in
-    omega (arith, v .2 .symbols .size, e .ensures .0 .1 .size)
+same-length-2 c = let x = c .before .before in omega (arith, head x .loop .inv .2 .symbols .size, call x .advance .ensures .0 .1 .size)
 
 same-length-3 : tie.Need-same-length-3 Inv-loop μ-loop
-same-length-3 c =
-    let v = c .before .before .before .before .before .before .before .before .before .before .before .before .before .before .before .before .before .before .before .loop .inv in
-    let e = c .before .before .before .before .before .before .before .before .before .before .before .before .advance in
-    omega (arith, v .3, e .kept)
+same-length-3 c = let x = c .before .before in omega (arith, head x .loop .inv .3, call x .advance .kept)
 
 same-length-4 : tie.Need-same-length-4 Inv-loop μ-loop
-same-length-4 c =
-    let v = c .before .before .before .before .before .before .before .before .before .before .before .before .before .before .before .before .before .before .before .loop .inv in
-    let e = c .before .before .before .before .before .before .before .before .before .before .before .before .advance in
-    omega (arith, v .1 .row, c .before .before .before .before .before .before .before .before .before .before .before .before .before .before .before .before .before .before .before .before .before .before .before .before .before .pre .2 .row, e .kept)
+same-length-4 c = let x = c .before .before in omega (arith, head x .loop .inv .1 .row, head x .before .before .before .before .before .before .pre .2 .row, call x .advance .kept)
 
 same-length-5 : tie.Need-same-length-5 Inv-loop μ-loop
-same-length-5 c =
-    let v = c .before .before .before .before .before .before .before .before .before .before .before .before .before .before .before .before .before .before .before .loop .inv in
-    let e = c .before .before .before .before .before .before .before .before .before .before .before .before .advance in
-    omega (arith, v .1 .symbol, c .before .before .before .before .before .before .before .before .before .before .before .before .before .before .before .before .before .before .before .before .before .before .before .before .before .pre .2 .symbol, e .kept)
+same-length-5 c = let x = c .before .before in omega (arith, head x .loop .inv .1 .symbol, head x .before .before .before .before .before .before .pre .2 .symbol, call x .advance .kept)
 
 returns : tie.Need-returns Inv-loop μ-loop
 returns c =
-    let s = c .before .before .before .before .before .before .before .before .before .before .before .before .before .before .before .before .before .before .before .before .before .before .before .before .before .args in
-    let v = c .before .before .before .before .before .before .before .before .before .before .before .before .before .before .before .before .before .before .before .loop .inv in
+    let x = c .before .before in
+    let s = head x .before .before .before .before .before .before .args in
+    let v = head x .loop .inv in
     let e = c .enum-told .given .1 in
-    let u = c .before .before .before .before .before .before .before .before .before .before .before .before .advance .ensures in
-    let h : c .before .before .before .before .before .before .before .before .before .before .before .before .before .before .before .before .before .before .before .loop .i + 1 ≤ s .m = omega (arith, c .before .before .before .before .before .before .before .before .before .before .before .before .before .before .before .before .before .before .loop-test .taken) in
+    let u = x .before .before .before .before .before .before .before .before .before .before .advance .ensures in
+    let h : head x .loop .i + 1 ≤ s .m = omega (arith, test x .loop-test .taken) in
     let rows = only-trans (only-more (mul-le-mul-right (s .l) (v .0)) (v .2 .rows)) (only-more (mul-le-mul-right (s .l) h) (u .0 .0)) in
     let symbols = only-trans (only-more (mul-le-mul-right (s .t) (v .0)) (v .2 .symbols)) (only-more (mul-le-mul-right (s .t) h) (u .0 .1)) in
     ((rows, symbols), (rw e (gone-more (s .l) (s .t) (s .rows .now) (s .values .now) h (rw e at (u .1 _ _ (v .2))))))
 
 add-i : tie.Need-add-i Inv-loop μ-loop
-add-i c = omega (arith, c .before .before .before .before .before .before .before .before .before .before .before .before .before .before .before .before .before .before .before .loop-test .taken)
+add-i c = omega (arith, test (c .before .before .before) .loop-test .taken)
 
 loop-less : tie.Need-loop-less Inv-loop μ-loop
-loop-less c = omega (arith, c .before .before .before .before .before .before .before .before .before .before .before .before .before .before .before .before .before .before .before .loop-test .taken)
+loop-less c = omega (arith, test (c .before .before .before) .loop-test .taken)
 
 loop-again : tie.Need-loop-again Inv-loop μ-loop
 loop-again c =
-    let v = c .before .before .before .before .before .before .before .before .before .before .before .before .before .before .before .before .before .before .before .before .loop .inv in
-    let e = c .before .before .before .before .before .before .before .before .before .before .before .before .before .advance in (
-      omega (arith, c .before .before .before .before .before .before .before .before .before .before .before .before .before .before .before .before .before .before .before .loop-test .taken),
+    let x = c .before .before .before in
+    let v = head x .loop .inv in
+    let e = x .before .before .before .before .before .before .before .before .before .before .advance in (
+      omega (arith, test x .loop-test .taken),
       record { row = omega (arith, v .1 .row, e .kept); symbol = omega (arith, v .1 .symbol, e .kept) },
       (rw (c .before .p .given .1) at (e .ensures .1 _ _ (v .2))),
       omega (arith, v .3, e .kept),

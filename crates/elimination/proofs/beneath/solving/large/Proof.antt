@@ -39,12 +39,12 @@ same-length-2 c = search needs
 
 returns : tie.Need-returns
 returns c =
-    let s = c .before .before .before .before .before .before .before .before .before .before .before .before .before .before .before .before .before .before .before .before .before .before .before .before .before in
-    let bytes : Bytes (s .args .values .now) = λ x. omega (arith, c .before .before .before .before .before .before .before .before .before .before .before .before .before .before .before .before .before .before .before .before .before .before .before .slice-known2 .given x) in
-    let e = c .before .before .before .before .before .before .before .before .before .before .before .before .before .before .before .before .forward-in .ensures in
+    let e = c .before .before .before .before .before .before .before .before .before .before .before .before .before .before .before .before in
+    let s = e .before .before .before .before .before .before .before .before .before in
+    let bytes : Bytes (s .args .values .now) = λ x. omega (arith, e .before .before .before .before .before .before .before .slice-known2 .given x) in
     let z = c .before .before .before .before .emptied .ensures in
-    let none = rw (c .before .before .before .before .before .before .before .enum-told .given .1) at (e .1) in
-    rw (z .1 .1) (answered-clash _ _ _ bytes none (only-then (e .0 .0) (z .0)) (only-then (e .0 .1) (z .1 .0)))
+    let none = rw (c .before .before .before .before .before .before .before .enum-told .given .1) at (e .forward-in .ensures .1) in
+    rw (z .1 .1) (answered-clash _ _ _ bytes none (only-then (e .forward-in .ensures .0 .0) (z .0)) (only-then (e .forward-in .ensures .0 .1) (z .1 .0)))
 
 slice-aggregate-settle : tie.Need-slice-aggregate-settle
 slice-aggregate-settle c = search needs
@@ -62,8 +62,8 @@ counted-requires c κs = search needs
 
 emptied-requires-2 : tie.Need-emptied-requires-2
 emptied-requires-2 c κs =
-    let e = c .before .before .before .before .before .before .before .before .before .before .before .before .before .before .before .before .before .before .before .before .forward-in .ensures in
-    room-kept (c .before .before .before .before .before .before .before .before .before .before .before .before .before .before .before .before .before .before .before .before .before .before .before .before .before .before .before .before .before .pre .0) (e .0 .0 .size) (e .0 .1 .size)
+    let e = c .before .before .before .before .before .before .before .before .before .before .before .before .before .before .before .before .before .before .before .before in
+    room-kept (e .before .before .before .before .before .before .before .before .before .pre .0) (e .forward-in .ensures .0 .0 .size) (e .forward-in .ensures .0 .1 .size)
 
 same-length-3 : tie.Need-same-length-3
 same-length-3 c = search needs
@@ -76,13 +76,13 @@ same-length-5 c = search needs
 
 returns-2 : tie.Need-returns-2
 returns-2 c =
-    let s = c .before .before .before .before .before .before .before .before .before .before .before .before .before .before .before .before .before .before .before .before .before .before .before .before .before .before .before .before .before .before .before .before .before .before in
-    let e = c .before .before .before .before .before .before .before .before .before .before .before .before .before .before .before .before .before .before .before .before .before .before .before .before .before .forward-in in
-    let u = rw (c .before .before .before .before .before .before .before .before .before .before .before .before .before .before .before .before .p .given .1) at (e .ensures .1) in
+    let n = c .before .before .before .before .before in
+    let e = n .before .before .before .before .before .before .before .before .before .before .before .before .before .before .before .before .before .before .before .before in
+    let s = e .before .before .before .before .before .before .before .before .before in
+    let u = rw (n .before .before .before .before .before .before .before .before .before .before .before .p .given .1) at (e .forward-in .ensures .1) in
     let z = c .before .before .before .before .emptied2 .ensures in
-    let n = c .before .before .before .before .before .counted in
-    rw (z .1 .1) (answered-held (e .last .1 .1 .0) _ _ _ (e .last .0) (e .last .1 .0) (n .result) (s .pre .2) u (c .before .before .before .before .before .before .before .before .before .before .settle .ensures) (n .ensures)
-    (only-then (e .ensures .0 .0) (z .0)) (only-then (e .ensures .0 .1) (z .1 .0)))
+    rw (z .1 .1) (answered-held (e .forward-in .last .1 .1 .0) _ _ _ (e .forward-in .last .0) (e .forward-in .last .1 .0) (n .counted .result) (s .pre .2) u
+    (n .before .before .before .before .before .settle .ensures) (n .counted .ensures) (only-then (e .forward-in .ensures .0 .0) (z .0)) (only-then (e .forward-in .ensures .0 .1) (z .1 .0)))
 
 pub large-spec : {M : Type 1} → statement M
 large-spec =

@@ -42,13 +42,13 @@ same-length-5 c = search needs
 
 returns : tie.Need-returns
 returns c =
-    let s = c .before .before .before .before .before .before .before .before .before .before .before .before .before .before .before .before .before .before .before .before .before .before in
-    let m = c .before .before .before .before .before .before .before .before .before .before .before .before .before .before .make-one in
+    let m = c .before .before .before .before .before .before .before .before .before .before .before .before .before .before in
+    let s = m .before .before .before .before .before .before .before .before in
     let a = c .before .before .before .before .before .before .before .copy-row .ensures in
     let d = c .before .before .copy-row2 .ensures in
-    let row : Bytes (s .args .row .now) = λ x. omega (arith, c .before .before .before .before .before .before .before .before .before .before .before .before .before .before .before .before .before .before .slice-known4 .given x) in (
-      put-in (s .args .c) (m .last .0) (m .last .1 .0) (s .pre .0) a d,
-      lodged (s .pre .0) (s .pre .1) (s .pre .2) row (m .ensures .0) (m .ensures .1) a d
+    let row : Bytes (s .args .row .now) = λ x. omega (arith, m .before .before .before .before .slice-known4 .given x) in (
+      put-in (s .args .c) (m .make-one .last .0) (m .make-one .last .1 .0) (s .pre .0) a d,
+      lodged (s .pre .0) (s .pre .1) (s .pre .2) row (m .make-one .ensures .0) (m .make-one .ensures .1) a d
           (λ x. omega (arith, c .before .before .before .before .before .slice-known8 .given x)) (λ x. omega (arith, c .slice-known9 .given x)),
     )
 

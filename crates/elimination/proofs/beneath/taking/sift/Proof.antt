@@ -24,8 +24,12 @@ next-pivot-requires c κs = let s = c .before .before .before .before .before .b
 
 loop-holds : tie.Need-loop-holds Inv-loop μ-loop
 loop-holds c =
-    let s = c .before .before .before .before .before .before .before in
-    (c .next-pivot .ensures .most, s .pre .1, λ h. swept-past (s .pre .0) (c .next-pivot .ensures) (swept-begin (s .pre .0) _ _ (λ x. omega (arith, c .before .before .before .slice-known .given x)) (λ x. omega (arith, c .before .before .slice-known2 .given x))))
+    let s = c .before .before .before .before .before .before .before in (
+      c .next-pivot .ensures .most,
+      s .pre .1,
+      λ h. swept-past (s .pre .0) (c .next-pivot .ensures) (swept-begin (s .pre .0) _ _
+          (λ x. omega (arith, c .before .before .before .slice-known .given x)) (λ x. omega (arith, c .before .before .slice-known2 .given x))),
+    )
 
 mul-take-off : tie.Need-mul-take-off Inv-loop μ-loop
 mul-take-off c = search needs
@@ -49,22 +53,26 @@ add-next-pivot c = omega (arith, c .before .before .before .before .before .befo
 
 next-pivot-requires-2 : tie.Need-next-pivot-requires-2 Inv-loop μ-loop
 next-pivot-requires-2 c κs =
-    let s = c .before .before .before .before .before .before .before .before .before .before .before .before .before .before .before .before .before .before in
-    (omega (arith, c .before .before .before .before .before .before .before .before .before .loop-test .taken), s .pre .0 .pivots, λ j h. omega (arith, s .pre .0 .below j h, c .before .before .before .before .before .before .before .before .before .before .loop .inv .1 .row, c .before .before .before .before .before .take-off .ensures .0 .2 .size))
+    let l = c .before .before .before .before .before .before .before .before .before .before in
+    let s = l .before .before .before .before .before .before .before .before in (
+      omega (arith, c .before .before .before .before .before .before .before .before .before .loop-test .taken),
+      s .pre .0 .pivots,
+      λ j h. omega (arith, s .pre .0 .below j h, l .loop .inv .1 .row, c .before .before .before .before .before .take-off .ensures .0 .2 .size),
+    )
 
 loop-less : tie.Need-loop-less Inv-loop μ-loop
 loop-less c = omega (arith, c .before .before .before .before .before .before .before .before .before .before .loop-test .taken, c .next-pivot2 .ensures .least, c .next-pivot2 .ensures .most)
 
 loop-again : tie.Need-loop-again Inv-loop μ-loop
 loop-again c =
-    let s = c .before .before .before .before .before .before .before .before .before .before .before .before .before .before .before .before .before .before .before in
-    let v = c .before .before .before .before .before .before .before .before .before .before .before .loop .inv in
+    let v = c .before .before .before .before .before .before .before .before .before .before .before in
+    let s = v .before .before .before .before .before .before .before .before in
     let h = c .before .before .before .before .before .before .before .before .before .before .loop-test .taken in
     let e = c .before .before .before .before .before .before .take-off .ensures in
     let n = c .next-pivot2 .ensures in (
       n .most,
-      record { row = e .0 .2 .size ∙ v .1 .row; symbol = e .1 .size ∙ v .1 .symbol },
-      λ q. swept-past (s .pre .0) n (swept-row (s .pre .0) (e .0 .0) q h refl (e .0 .1) (e .0 .2) (e .1) (v .2 q)),
+      record { row = e .0 .2 .size ∙ v .loop .inv .1 .row; symbol = e .1 .size ∙ v .loop .inv .1 .symbol },
+      λ q. swept-past (s .pre .0) n (swept-row (s .pre .0) (e .0 .0) q h refl (e .0 .1) (e .0 .2) (e .1) (v .loop .inv .2 q)),
     )
 
 same-length : tie.Need-same-length Inv-loop μ-loop

@@ -16,9 +16,9 @@ seek-requires c κs = search needs
 
 hold-requires : tie.Need-hold-requires
 hold-requires c κs =
-    let s = c .before .before .before .before .before .before .before .before .before .before .before .before .before .before .before .before .before .before .before .before .before .before .before in
-    let h = c .before .before .before .before .before .if1 .taken in
-    (s .pre .1 .2 (c .before .before .before .before .before .before .seek .ensures .vacant h), c .before .before .before .before .before .before .before .before .before .before .before .before .sift .ensures .0, h, s .pre .1 .1)
+    let h = c .before .before .before .before .before in
+    let s = h .before .before .before .before .before .before .before .before .before .before .before .before .before .before .before .before .before .before in
+    (s .pre .1 .2 (h .before .seek .ensures .vacant (h .if1 .taken)), h .before .before .before .before .before .before .before .sift .ensures .0, (h .if1 .taken), s .pre .1 .1)
 
 same-length : tie.Need-same-length
 same-length c = search needs
@@ -37,17 +37,17 @@ same-length-5 c = search needs
 
 returns : tie.Need-returns
 returns c =
-    let k = c .before .before .before .before .before .before .before .before .before .before .before .before .before .before .before .before .before .seek in
-    let h = c .before .before .before .before .before .before .before .before .before .before .before .before .before .before .before .before .if1 .taken in
-    let v = k .ensures .vacant h in
-    let f = k .ensures .first v in
-    let p = c .before .before .before .before .before .before .before .before .before .before .hold .ensures in
-    let w = c .before .before .before .before .before .before .before .before .before .before .before .before .before .before .before .before .before .before .before .before .before .before .before .sift .ensures .1 in (
+    let p = c .before .before .before .before .before .before .before .before .before .before in
+    let k = p .before .before .before .before .before .before .before in
+    let h = p .before .before .before .before .before .before .if1 .taken in
+    let v = k .seek .ensures .vacant h in
+    let f = k .seek .ensures .first v in
+    let w = k .before .before .before .before .before .before .sift .ensures .1 in (
       v,
-      (k .result, h, p .0),
+      (k .seek .result, h, p .hold .ensures .0),
       λ q. record {
-        stands = p .1 .stands (record { gone = w q .gone; low = λ i l. f .zeros i l (omega arith); other = f .other h }) q;
-        says = λ S u. p .1 .says (f .other h) S (holds-kept u (w q .keeps));
+        stands = p .hold .ensures .1 .stands (record { gone = w q .gone; low = λ i l. f .zeros i l (omega arith); other = f .other h }) q;
+        says = λ S u. p .hold .ensures .1 .says (f .other h) S (holds-kept u (w q .keeps));
       },
     )
 
@@ -71,10 +71,10 @@ same-length-10 c = search needs
 
 returns-2 : tie.Need-returns-2
 returns-2 c =
-    let lent = c .before .before .before .before .before .before .before .before .before .before .before .before .before .before .before .before .before .before .before .before .before .pre .0 .0 in
-    let w = c .before .before .before .before .before .before .before .before .before .before .sift .ensures .1 in
+    let w = c .before .before .before .before .before .before .before .before .before .before in
+    let lent = w .before .before .before .before .before .before .before .before .before .before .before .pre .0 .0 in
     let k = c .before .before .before .before .seek .ensures in
-    (record { pivots = refl; rows = refl; symbols = refl }, λ q. take-denied lent q (w q) k (omega (arith, c .before .before .before .if1 .left)) (c .before .first-other .ensures) (c .if2 .taken))
+    (record { pivots = refl; rows = refl; symbols = refl }, λ q. take-denied lent q ((w .sift .ensures .1) q) k (omega (arith, c .before .before .before .if1 .left)) (c .before .first-other .ensures) (c .if2 .taken))
 
 same-length-11 : tie.Need-same-length-11
 same-length-11 c = search needs
@@ -93,10 +93,10 @@ same-length-15 c = search needs
 
 returns-3 : tie.Need-returns-3
 returns-3 c =
-    let lent = c .before .before .before .before .before .before .before .before .before .before .before .before .before .before .before .before .before .before .before .before .before .pre .0 .0 in
-    let w = c .before .before .before .before .before .before .before .before .before .before .sift .ensures .1 in
+    let w = c .before .before .before .before .before .before .before .before .before .before in
+    let lent = w .before .before .before .before .before .before .before .before .before .before .before .pre .0 .0 in
     let k = c .before .before .before .before .seek .ensures in
-    (record { pivots = refl; rows = refl; symbols = refl }, λ q. take-followed lent q (w q) k (omega (arith, c .before .before .before .if1 .left)) (c .before .first-other .ensures) (omega (arith, c .if2 .left)))
+    (record { pivots = refl; rows = refl; symbols = refl }, λ q. take-followed lent q ((w .sift .ensures .1) q) k (omega (arith, c .before .before .before .if1 .left)) (c .before .first-other .ensures) (omega (arith, c .if2 .left)))
 
 pub take-spec : {M : Type 1} → statement M
 take-spec =

@@ -51,10 +51,13 @@ loop-less c = search needs
 
 loop-again : tie.Need-loop-again Inv-loop μ-loop
 loop-again c =
+    let a = c .before .before .before .before .before .before in
     let v = c .before .before .before .before .loop .inv .1 in
-    let h = c .before .before .before .loop-test .taken in
-    let a = c .before .before .before .before .before .before .args in
-    (omega (arith, h), written-more v (omega arith) (omega (arith, h, c .before .before .before .before .before .before .pre .to-in)) (ap₂ plus (written-next v) (c .mul .ensures ∙ times-comm _ (a .f) ∙ ap (times (a .f)) (apart-still v (c .before .before .before .before .before .before .pre) (omega arith) (c .before .before .before .before .loop .c) h))))
+    let h = c .before .before .before .loop-test .taken in (
+      omega (arith, h),
+      written-more v (omega arith) (omega (arith, h, a .pre .to-in)) (ap₂ plus (written-next v)
+          (c .mul .ensures ∙ times-comm _ (a .args .f) ∙ ap (times (a .args .f)) (apart-still v (a .pre) (omega arith) (c .before .before .before .before .loop .c) h))),
+    )
 
 same-length : tie.Need-same-length Inv-loop μ-loop
 same-length c = c .before .loop .inv .1 .size

@@ -47,9 +47,12 @@ loop-less c = search needs
 
 loop-again : tie.Need-loop-again Inv-loop μ-loop
 loop-again c =
-    let v = c .before .before .before .loop .inv .1 in
-    let h = c .before .before .loop-test .taken in
-    (omega (arith, h), written-more v (omega arith) (omega (arith, h, c .before .before .before .before .pre .to-in)) (ap₂ plus (written-next v) (apart-still v (c .before .before .before .before .pre) (omega arith) (c .before .before .before .loop .c) h)))
+    let v = c .before .before .before in
+    let h = c .before .before .loop-test .taken in (
+      omega (arith, h),
+      written-more (v .loop .inv .1) (omega arith) (omega (arith, h, v .before .pre .to-in)) (ap₂ plus (written-next (v .loop .inv .1))
+          (apart-still (v .loop .inv .1) (v .before .pre) (omega arith) (v .loop .c) h)),
+    )
 
 same-length : tie.Need-same-length Inv-loop μ-loop
 same-length c = c .before .loop .inv .1 .size

@@ -2,21 +2,20 @@
 -- Assumes nothing.
 use Prim.Native.Nat.{_-_, _≤_}
 use native.Mathlib.Omega.{arith}
-use lib.ListN.{length}
 use borrow.Author.Needs.{needs}
 use Rattle.field.specs.Runs.{Blank}
-use Rattle.field.proofs.Parts.{blank-more}
+use Rattle.field.proofs.Parts.{blank-part}
 use Rattle.field.proofs.beneath.runs.blank.Statement.{statement}
 use Rattle.field.proofs.beneath.runs.blank.Tie as tie
 
 abbrev Inv-loop : tie.InvT-loop
-Inv-loop src n₀ n = (n ≤ length src) × Blank n src
+Inv-loop src from to x₀ x = (from ≤ x) × (x ≤ to) × Blank src from x
 
 abbrev μ-loop : tie.MeasureT-loop
-μ-loop src n₀ n = length src - n
+μ-loop src from to x₀ x = to - x
 
 loop-holds : tie.Need-loop-holds Inv-loop μ-loop
-loop-holds c = (omega arith, λ k h. absurd (omega arith))
+loop-holds c = (omega arith, omega arith, λ k h l. absurd (omega arith))
 
 sub-loop : tie.Need-sub-loop Inv-loop μ-loop
 sub-loop c = search needs
@@ -46,7 +45,7 @@ loop-again : tie.Need-loop-again Inv-loop μ-loop
 loop-again c =
     let l = c .before .before .before .before .loop in
     let src = c .before .before .before .before .before .before .args .src .now in
-    (omega arith, blank-more src (l .n) 64 (omega arith) (l .inv .1) (c .before .most .ensures) (omega arith))
+    (omega arith, omega arith, blank-part src (l .x) 64 (omega arith) (l .inv .2) (c .before .most .ensures) (omega arith))
 
 returns-2 : tie.Need-returns-2 Inv-loop μ-loop
 returns-2 c = c .before .loop .inv
