@@ -88,28 +88,28 @@ walk-held w p p1 t s b {list = list} walked k h = ap (λ (i : ℕ). getD list i 
 
 -- ---- a run that is cleared, and then has the places of a tuple set
 
-module _ (w p p1 : ℕ) (t : Tuple) (s : Walks w p p1) (b : Bounds w p1 t) {old list xs ys : List ℕ} {at : ℕ} (walked : Laid (places w p p1 t) old list 0)
-    (clear : Written (λ k. 0) xs ys at (w + p)) (room : at + (w + p) ≤ length xs) where
+module _ (w p p1 : ℕ) (t : Tuple) (s : Walks w p p1) (b : Bounds w p1 t) {l : ℕ} (e : l ≡ w + p) {old list xs ys : List ℕ} {at : ℕ}
+    (walked : Laid (places w p p1 t) old list 0) (clear : Written (λ k. 0) xs ys at l) (room : at + l ≤ length xs) where
   held : (k : ℕ) → k < t .d + t .d1 → getD list k 0 ≡ getD (places w p p1 t) k 0
   held = walk-held w p p1 t s b walked
 
-  pub markable : t .d + t .d1 ≤ length list → Markable list ys at (t .d + t .d1) (w + p)
+  pub markable : t .d + t .d1 ≤ length list → Markable list ys at (t .d + t .d1) l
   markable r =
       record {
         read = r;
-        apart = λ i j l h e. places-distinct w p p1 t s b i j l (omega (arith, places-length w p p1 t s b)) (sym (held i (omega arith)) ∙ e ∙ held j h);
-        inside = λ k h. subst (λ (n : ℕ). n < w + p) (sym (held k h)) (places-lt w p p1 t s b k (omega (arith, places-length w p p1 t s b)));
+        apart = λ i j a h q. places-distinct w p p1 t s b i j a (omega (arith, places-length w p p1 t s b)) (sym (held i (omega arith)) ∙ q ∙ held j h);
+        inside = λ k h. omega (arith, e, held k h, places-lt w p p1 t s b k (omega (arith, places-length w p p1 t s b)));
         blank = clear .part;
         room = omega (arith, clear .size);
       }
 
-  pub marked : {zs : List ℕ} → Written (λ c. sum (t .d + t .d1) (λ k. unit c (getD list k 0))) ys zs at (w + p)
-      → Written (visits (places w p p1 t)) xs zs at (w + p)
+  pub marked : {zs : List ℕ} → Written (λ c. sum (t .d + t .d1) (λ k. unit c (getD list k 0))) ys zs at l
+      → Written (visits (places w p p1 t)) xs zs at l
   unfolding visits
   marked {zs} u =
       record {
         size = u .size ∙ clear .size;
-        part = λ c h. u .part c h ∙ sum-same (t .d + t .d1) (λ k l. ap (unit c) (held k l))
+        part = λ c h. u .part c h ∙ sum-same (t .d + t .d1) (λ k q. ap (unit c) (held k q))
             ∙ ap (λ (n : ℕ). sum n (λ k. unit c (getD (places w p p1 t) k 0))) (sym (places-length w p p1 t s b));
         low = λ k h. u .low k h ∙ clear .low k h;
         high = λ k h. u .high k h ∙ clear .high k h;

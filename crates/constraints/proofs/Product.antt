@@ -145,10 +145,10 @@ hdpc-next v n h i c p b =
     ∙ sym (assoc (doubled (hdpc v n h i (c + 1))) (unit i (first v h c)) (unit i (second v h c)))
 
 -- what the code puts into column c, with all columns from c + 1 on filled
-pub next-is : (v : List ℕ) (n h c : ℕ) {xs ys : List ℕ} {at d r a b : ℕ} → FilledFrom (hdpc v n h) xs ys at h (n + h) d → d ≡ c + 1
-    → 2 ≤ h → d < n → r < h → a ≡ first v h c → b ≡ second v h c
-    → plus (plus (doubled (getD ys (at + r * (n + h) + c + 1) 0)) (unit r a)) (unit r b) ≡ hdpc v n h r c
-next-is v n h c {xs} {ys} {at} {d} {r} {a} {b} w e p q hr ea eb =
-    let x : getD ys (at + r * (n + h) + c + 1) 0 ≡ hdpc v n h r (c + 1) =
-    ap (λ (k : ℕ). getD ys k 0) (add-assoc (at + r * (n + h)) c 1) ∙ w .part r (c + 1) hr (omega arith) (omega arith) in
+pub next-is : (v : List ℕ) (n h c : ℕ) {xs ys : List ℕ} {at l d r a b : ℕ} → FilledFrom (hdpc v n h) xs ys at h l d → d ≡ c + 1
+    → 2 ≤ h → d < n → n ≤ l → r < h → a ≡ first v h c → b ≡ second v h c
+    → plus (plus (doubled (getD ys (at + r * l + c + 1) 0)) (unit r a)) (unit r b) ≡ hdpc v n h r c
+next-is v n h c {xs} {ys} {at} {l} {d} {r} {a} {b} w e p q m hr ea eb =
+    let x : getD ys (at + r * l + c + 1) 0 ≡ hdpc v n h r (c + 1) =
+    ap (λ (k : ℕ). getD ys k 0) (add-assoc (at + r * l) c 1) ∙ w .part r (c + 1) hr (omega arith) (omega arith) in
     ap₂ plus (ap₂ (λ (y z : ℕ). plus (doubled y) z) x (ap (unit r) ea)) (ap (unit r) eb) ∙ sym (hdpc-next v n h r c p (omega arith))

@@ -84,11 +84,11 @@ pub fn generate_hdpc_rows(r: Row, tables: &[u32], out: &mut [u8]) -> refusal::An
     if tables.len() != 1024 {
         return refusal::Answer::Refused(Refusal::BadTables);
     }
-    let n = (r.kp + r.s) as usize;
     let h = r.h as usize;
-    if out.len() < h * (n + h) {
+    let l = row::l(r) as usize;
+    if out.len() < h * l {
         return refusal::Answer::Refused(Refusal::WrongLength);
     }
-    hdpc::generate_hdpc_rows(tables, out, 0, n, h);
+    hdpc::generate_hdpc_rows(tables, out, 0, l, h);
     refusal::Answer::Done
 }

@@ -1,5 +1,6 @@
 // The row of a tuple, one octet to a column: ones at the places of its walk. No place stands twice in a walk, so that setting a one is
 // adding it.
+ghost use mathlib.Core.Path.{_≡_};
 ghost use Prim.Native.Nat.{_+_, _≤_};
 ghost use lib.ListN.{length, getD};
 ghost use Rattle.field.specs.Runs.{Written};
@@ -24,14 +25,13 @@ fn set_ones(out: &mut [u8], at: usize, l: usize, list: &[u32], n: usize)
     }
 }
 
-// The row of a tuple, from place `at` of a store on.
-pub fn tuple_row(out: &mut [u8], at: usize, w: u32, p: u32, p1: u32, t: Tuple)
-    requires { ⌜ Walks w p p1 × Bounds w p1 t × (at + (w + p) ≤ length (now out)) ⌝ }
-    ensures { λ _. ⌜ Written (visits (places w p p1 t)) (now (out .entry)) (now (out .exit)) at (w + p) ⌝ }
+// The row of a tuple, l octets from place `at` of a store on.
+pub fn tuple_row(out: &mut [u8], at: usize, l: usize, w: u32, p: u32, p1: u32, t: Tuple)
+    requires { ⌜ Walks w p p1 × Bounds w p1 t × (l ≡ w + p) × (at + l ≤ length (now out)) ⌝ }
+    ensures { λ _. ⌜ Written (visits (places w p p1 t)) (now (out .entry)) (now (out .exit)) at l ⌝ }
 {
     let mut list = [0u32; 33];
     walk::enc_indices(t, w, p, p1, &mut list);
-    let l = (w + p) as usize;
     runs::clear(out, at, l);
     let n = (t.d + t.d1) as usize;
     set_ones(out, at, l, &list, n);

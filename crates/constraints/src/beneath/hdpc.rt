@@ -2,7 +2,7 @@
 // The HDPC rows, row after row in a lent store, filled column by column from the right: each column is alpha times the next,
 // with two ones more. A product of MT with GAMMA would take n times as long.
 ghost use mathlib.Core.Path.{_≡_};
-ghost use Prim.Native.Nat.{_+_, _*_, _<_, _≤_};
+ghost use Prim.Native.Nat.{_+_, _-_, _*_, _<_, _≤_};
 ghost use lib.ListN.{length, getD};
 ghost use Rattle.field.specs.Octet.{plus, doubled, power};
 ghost use Rattle.field.specs.Runs.{Written};
@@ -51,12 +51,12 @@ fn next_column(out: &mut [u8], at: usize, h: usize, l: usize, c: usize, a: usize
     }
 }
 
-// H rows of n + H octets from place `at` on, where n is K' + S.
-pub fn generate_hdpc_rows(tables: &[u32], out: &mut [u8], at: usize, n: usize, h: usize)
-    requires { ⌜ (length (now tables) ≡ 1024) × (1 ≤ n) × (2 ≤ h) × (n + h ≤ 65535) × (at + h * (n + h) ≤ length (now out)) ⌝ }
-    ensures { λ _. ⌜ Written (cells (n + h) (hdpc (now (tables .entry)) n h)) (now (out .entry)) (now (out .exit)) at (h * (n + h)) ⌝ }
+// H rows of l octets from place `at` on; what L has beside H is K' + S.
+pub fn generate_hdpc_rows(tables: &[u32], out: &mut [u8], at: usize, l: usize, h: usize)
+    requires { ⌜ (length (now tables) ≡ 1024) × (h < l) × (2 ≤ h) × (l ≤ 65535) × (at + h * l ≤ length (now out)) ⌝ }
+    ensures { λ _. ⌜ Written (cells l (hdpc (now (tables .entry)) (l - h) h)) (now (out .entry)) (now (out .exit)) at (h * l) ⌝ }
 {
-    let l = n + h;
+    let n = l - h;
     let mut c = l;
     while n < c {
         c -= 1;

@@ -61,7 +61,7 @@ pub fn obeys(r: Row) -> bool
     if w <= s {
         return false;
     }
-    let l = r.kp + s + r.h;
+    let l = l(r);
     if l < w + 3 {
         return false;
     }
@@ -74,8 +74,9 @@ pub fn obeys(r: Row) -> bool
     true
 }
 
+// The one sum of K', S and H: `obeys` asks for it before it knows that the row obeys.
 pub fn l(r: Row) -> u32
-    requires { ⌜ Obeys r ⌝ }
+    requires { ⌜ Ranges (r .kp) (r .j) (r .s) (r .h) (r .w) ⌝ }
     ensures { λ n. ⌜ n ≡ lOf r ⌝ }
 {
     r.kp + r.s + r.h

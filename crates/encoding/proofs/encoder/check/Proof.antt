@@ -38,7 +38,7 @@ returns-6 : tie.Need-returns-6
 returns-6 c = simp (obeyed (fine (c .before .before .before .before .before .before)), eq-eqb _ _ (c .before .before .before .before .before .if2 .left), le-leb _ _ (c .before .before .before .before .if3 .left), le-leb _ _ (c .before .before .if4 .left), lt-leb _ _ (c .before .if5 .left), eq-eqb _ _ (c .if6 .taken))
 
 l-requires : tie.Need-l-requires
-l-requires c κs = fine (c .before .before .before .before .before .before)
+l-requires c κs = fine (c .before .before .before .before .before .before) .ranges
 
 cast-if7 : tie.Need-cast-if7
 cast-if7 c = search needs

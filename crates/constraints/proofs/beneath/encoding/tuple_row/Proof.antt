@@ -11,12 +11,6 @@ slice-aggregate-enc-indices c = search needs
 enc-indices-requires : tie.Need-enc-indices-requires
 enc-indices-requires c κs = search needs
 
-add-l : tie.Need-add-l
-add-l c = search needs
-
-cast-l : tie.Need-cast-l
-cast-l c = search needs
-
 clear-requires : tie.Need-clear-requires
 clear-requires c κs = search needs
 
@@ -31,21 +25,24 @@ slice-aggregate-set-ones c = search needs
 
 set-ones-requires : tie.Need-set-ones-requires
 set-ones-requires c κs =
-    let s = c .before .before .before .before .before .before .before .before .before .before .before in
+    let cleared = c .before .before .before .before .before in
+    let walked = cleared .before .before .before in
+    let s = walked .before .before .before in
     let a = s .args in
-    markable (a .w) (a .p) (a .p1) (a .t) (s .pre .0) (s .pre .1) (c .before .before .before .before .before .before .before .before .enc-indices .ensures)
-    (c .before .before .before .before .before .clear .ensures) (s .pre .2) (search needs)
+    markable (a .w) (a .p) (a .p1) (a .t) (s .pre .0) (s .pre .1) (s .pre .2) (walked .enc-indices .ensures) (cleared .clear .ensures) (s .pre .3)
+    (search needs)
 
 same-length : tie.Need-same-length
 same-length c = search needs
 
 returns : tie.Need-returns
 returns c =
-    let s = c .before .before .before .before .before .before .before .before .before .before .before .before .before .before in
+    let cleared = c .before .before .before .before .before .before .before .before in
+    let walked = cleared .before .before .before in
+    let s = walked .before .before .before in
     let a = s .args in
-    marked (a .w) (a .p) (a .p1) (a .t) (s .pre .0) (s .pre .1)
-    (c .before .before .before .before .before .before .before .before .before .before .before .enc-indices .ensures)
-    (c .before .before .before .before .before .before .before .before .clear .ensures) (s .pre .2) (c .before .before .set-ones .ensures)
+    marked (a .w) (a .p) (a .p1) (a .t) (s .pre .0) (s .pre .1) (s .pre .2) (walked .enc-indices .ensures) (cleared .clear .ensures) (s .pre .3)
+    (c .before .before .set-ones .ensures)
 
 pub tuple-row-spec : {M : Type 1} → statement M
 tuple-row-spec =
@@ -53,8 +50,6 @@ tuple-row-spec =
     (tie.spec
     slice-aggregate-enc-indices
     enc-indices-requires
-    add-l
-    cast-l
     clear-requires
     add-n
     cast-n

@@ -13,19 +13,19 @@ use Rattle.constraints.proofs.beneath.hdpc.generate_hdpc_rows.Statement
 use Rattle.constraints.proofs.beneath.hdpc.generate_hdpc_rows.Tie as tie
 
 abbrev Inv-loop : tie.InvT-loop
-Inv-loop tables out₀ at n h l c₀ out c = (n ≤ c) × (c ≤ n + h) × FilledFrom (hdpc tables n h) out₀ out at h (n + h) c
+Inv-loop tables out₀ at l h n c₀ out c = (l - h ≤ c) × (c ≤ l) × FilledFrom (hdpc tables (l - h) h) out₀ out at h l c
 
 abbrev μ-loop : tie.MeasureT-loop
-μ-loop tables out₀ at n h l c₀ out c = c
+μ-loop tables out₀ at l h n c₀ out c = c
 
 abbrev Inv-loop2 : tie.InvT-loop2
-Inv-loop2 tables out₀ at n h l c₀ out c = (c < n) × FilledFrom (hdpc tables n h) out₀ out at h (n + h) c
+Inv-loop2 tables out₀ at l h n c₀ out c = (c < l - h) × FilledFrom (hdpc tables (l - h) h) out₀ out at h l c
 
 abbrev μ-loop2 : tie.MeasureT-loop2
-μ-loop2 tables out₀ at n h l c₀ out c = c
+μ-loop2 tables out₀ at l h n c₀ out c = c
 
-add-l : tie.Need-add-l Inv-loop μ-loop Inv-loop2 μ-loop2
-add-l c = search needs
+sub-n : tie.Need-sub-n Inv-loop μ-loop Inv-loop2 μ-loop2
+sub-n c = search needs
 
 loop-holds : tie.Need-loop-holds Inv-loop μ-loop Inv-loop2 μ-loop2
 loop-holds c = search needs
@@ -61,8 +61,9 @@ entry c = c .before .before .before .before .before .before .before .before
 
 -- with the column of the powers of alpha
 after-alpha : (c : tie.After-slice-known3 Inv-loop μ-loop Inv-loop2 μ-loop2)
-    → FilledFrom (hdpc (entry c .args .tables .now) (entry c .args .n) (entry c .args .h)) (entry c .args .out .now) (c .before .before .alpha-column .last .0)
-    (entry c .args .at) (entry c .args .h) (entry c .args .n + entry c .args .h) (c .before .before .before .before .before .loop .c - 1)
+    → let a = entry c .args in
+    FilledFrom (hdpc (a .tables .now) (a .l - a .h) (a .h)) (a .out .now) (c .before .before .alpha-column .last .0) (a .at) (a .h) (a .l)
+    (c .before .before .before .before .before .loop .c - 1)
 after-alpha c =
     filled-more (c .before .before .before .before .before .loop .inv .2) (omega arith) (omega arith) (c .before .before .alpha-column .ensures)
     (λ r h. sym (hdpc-last _ _ _ _ _ (omega arith)))
@@ -124,7 +125,7 @@ loop2-again c =
       omega arith,
       filled-more (s .loop2 .inv .1) (omega arith) (omega arith) (c .before .before .next-column .ensures)
           (λ r h.
-          next-is _ _ _ _ (s .loop2 .inv .1) (omega arith) (omega arith) (omega arith) h (e .rand .ensures .0)
+          next-is _ _ _ _ (s .loop2 .inv .1) (omega arith) (omega arith) (omega arith) (omega arith) h (e .rand .ensures .0)
           (ap₂ (λ (x y : ℕ). (x + y + 1) % a .h) (e .rand .ensures .0) (c .before .before .before .before .rand2 .ensures .0))),
     )
 
@@ -142,7 +143,7 @@ generate-hdpc-rows-spec =
     μ-loop
     Inv-loop2
     μ-loop2
-    add-l
+    sub-n
     loop-holds
     sub-c
     sub-unit-column

@@ -28,7 +28,7 @@ returns-4 : tie.Need-returns-4
 returns-4 c = simp (obeyed (granted (c .before .before .before .before .before .obeys .result) (c .before .before .before .before .if1 .left) (c .before .before .before .before .before .obeys .ensures)), le-ltb _ _ (c .before .before .before .if2 .left), le-ltb _ _ (c .before .if3 .left), lt-ltb 1024 _ (c .if4 .taken))
 
 l-requires : tie.Need-l-requires
-l-requires c κs = granted (c .before .before .before .before .before .obeys .result) (c .before .before .before .before .if1 .left) (c .before .before .before .before .before .obeys .ensures)
+l-requires c κs = let e = c .before .before .before .before in granted (e .before .obeys .result) (e .if1 .left) (e .before .obeys .ensures) .ranges
 
 returns-5 : tie.Need-returns-5
 returns-5 c = simp (obeyed (granted (c .before .before .before .before .before .before .before .obeys .result) (c .before .before .before .before .before .before .if1 .left) (c .before .before .before .before .before .before .before .obeys .ensures)), le-ltb _ _ (c .before .before .before .before .before .if2 .left), le-ltb _ _ (c .before .before .before .if3 .left), le-ltb 1024 _ (c .before .before .if4 .left), lt-ltb 300 (lOf (c .before .before .before .before .before .before .before .before .args .r)) (omega (arith, c .before .l .ensures)))

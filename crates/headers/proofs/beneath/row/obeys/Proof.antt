@@ -30,14 +30,11 @@ returns-2 c =
 returns-3 : tie.Need-returns-3
 returns-3 c = search needs
 
-add-l : tie.Need-add-l
-add-l c = let k = ranged (c .before .before .before .before) in omega arith
-
-add-l-2 : tie.Need-add-l-2
-add-l-2 c = let k = ranged (c .before .before .before .before .before) in omega arith
+l-requires : tie.Need-l-requires
+l-requires c κs = ranged (c .before .before .before)
 
 add-if4 : tie.Need-add-if4
-add-if4 c = let k = ranged (c .before .before .before .before .before) in omega arith
+add-if4 c = let k = ranged (c .before .before .before .before) in omega arith
 
 returns-4 : tie.Need-returns-4
 returns-4 c = search needs
@@ -52,7 +49,7 @@ cast-int-div-ceil-2 : tie.Need-cast-int-div-ceil-2
 cast-int-div-ceil-2 c = search needs
 
 int-div-ceil-requires : tie.Need-int-div-ceil-requires
-int-div-ceil-requires c κs = let k = ranged (c .before .before .before .before .before .before) in omega arith
+int-div-ceil-requires c κs = let k = ranged (c .before .before .before .before .before) in omega arith
 
 cast-if5 : tie.Need-cast-if5
 cast-if5 c = search needs
@@ -65,7 +62,7 @@ returns-6 c = search needs
 
 returns-7 : tie.Need-returns-7
 returns-7 c =
-    let tested = c .before .before .before .before .before .before .before in
+    let tested = c .before .before .before .before .before .before in
     let b = tested .before .is-prime .result in
     record {
       ranges = ranged (tested .before .before);
@@ -85,8 +82,7 @@ obeys-spec =
     is-prime-requires
     returns-2
     returns-3
-    add-l
-    add-l-2
+    l-requires
     add-if4
     returns-4
     sub-int-div-ceil
