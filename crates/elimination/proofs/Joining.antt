@@ -1,6 +1,6 @@
 -- One equation against the held ones: the held rows go off it, and it is held, or says nothing new, or cannot be met.
 -- Assumes nothing.
-use mathlib.Core.Path.{_≡_, sym, ap, ap₂, _∙_}
+use mathlib.Core.Path.{_≡_, refl, sym, ap, ap₂, _∙_}
 use mathlib.Core.Logic.{_≢_, _⊎_, inl, inr}
 use mathlib.Core.List.{List}
 use Prim.Native.Nat.{ℕ, _+_, _*_, _≤_, _<_}
@@ -30,7 +30,7 @@ use Rattle.linear.proofs.Elimination.{stepped-agree, stepped-more, off-more, ro
 use Rattle.linear.proofs.Keeping.{keeps-refl, keeps-trans, keeps-added, keeps-scaled, holds-kept, holds-agree}
 use Rattle.linear.proofs.Finish.{clash}
 use Rattle.elimination.specs.Steps.{Passed, column}
-use Rattle.elimination.specs.Taking.{Lent, RoomForOne, Wide, Onto, OntoFrom, Times, Swept, Sought, Fresh, PutIn, Lodged, Followed, Denied}
+use Rattle.elimination.specs.Taking.{Lent, RoomForOne, Wide, Onto, OntoFrom, Times, Swept, Sought, Fresh, PutIn, Lodged, Still, Followed, Denied}
 use Rattle.elimination.proofs.Buffers.{written-long, onto-all}
 open Field octets using (𝟘)
 
@@ -134,6 +134,9 @@ put-in {r = r} c x₁ y₁ {ps = ps} place ca cd = record {
 }
 
 -- ---- or it depends on the held ones
+
+pub still : (ps a d : List ℕ) → Still ps a d ps a d
+still ps a d = record { pivots = refl; rows = refl; symbols = refl }
 
 module _ {L T r : ℕ} {ps a d x y x₁ y₁ : List ℕ} (lent : Lent L T r ps a d) (t : Stepped L r (column ps) a d) (s : Swept L T r r ps a d x y x₁ y₁) where
   -- no column was found, or none could be

@@ -39,9 +39,11 @@ same-length-3 c = search needs
 
 returns : tie.Need-returns
 returns c =
-    let a = c .before .before .before .before .before .before .before .before .before .before .before .before .before .before .before .before .before .before .before .before .args in
-    let u = c .before .before .before .before .before .before .run .ensures in
-    (rw (c .before .before .before .before .before .before .before .before .before .before .before .before .before .any-large .ensures) at (told (c .before .before .before .before .before .before .before .before .before .before .before .before .may .result) (c .before .before .before .before .before .before .before .before .before .before .before .before .may .ensures) (c .before .before .before .before .before .before .before .before .before .before .enum-told .given .1)), u .0, u .1 .0, u .1 .1)
+    let u = c .before .before .before .before .before .before in
+    let a = u .before .before .before .before .before .before .before .before .before .before .before .before .before .before .args in
+    let m = u .before .before .before .before .before .before in
+    let e = told (m .may .result) (m .may .ensures) (u .before .before .before .before .enum-told .given .1) in
+    (rw (m .before .any-large .ensures) at e, u .run .ensures .0, u .run .ensures .1 .0, u .run .ensures .1 .1)
 
 returns-2 : tie.Need-returns-2
 returns-2 c =

@@ -54,7 +54,8 @@ returns c =
     let lent = lent-held _ (omega (arith, s .pre .0 .3)) (s .pre .0 .0) (s .pre .0 .1) (s .pre .1) in (
       became-only (a .l) (a .t) (a .pivots .now) (a .rows .now) (a .values .now) (x .last .1 .0) (y .copy-row2 .last .1 .0) (k .take .last .1 .1 .0) (k .take .last .0) (k .take .last .1 .0)
           (s .pre .0 .3) (k .take .result) (k .take .ensures),
-      λ a₀ d₀ u. rw (c .held-now .ensures) (gone _ _ u (x .ensures) (y .copy-row2 .ensures) lent (k .take .last .1 .1 .0) (k .take .last .0) (k .take .last .1 .0) (k .take .result) (k .take .ensures)),
+      λ a₀ d₀ u. rw (c .held-now .ensures) (gone _ _ u (x .ensures) (y .copy-row2 .ensures) lent
+          (k .take .last .1 .1 .0) (k .take .last .0) (k .take .last .1 .0) (k .take .result) (k .take .ensures)),
     )
 
 pub advance-spec : {M : Type 1} → statement M

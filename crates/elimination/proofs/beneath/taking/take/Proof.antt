@@ -1,10 +1,9 @@
 -- `elimination::beneath::taking::take` meets its contract: the equation is held, or the held ones say all of it, or they deny it.
 -- Assumes nothing.
-use mathlib.Core.Path.{refl}
 use native.Mathlib.Omega.{arith}
 use borrow.Author.Needs.{needs}
 use Rattle.linear.proofs.Keeping.{holds-kept}
-use Rattle.elimination.proofs.Joining.{take-followed, take-denied}
+use Rattle.elimination.proofs.Joining.{still, take-followed, take-denied}
 use Rattle.elimination.proofs.beneath.taking.take.Statement.{statement}
 use Rattle.elimination.proofs.beneath.taking.take.Tie as tie
 
@@ -73,8 +72,11 @@ returns-2 : tie.Need-returns-2
 returns-2 c =
     let w = c .before .before .before .before .before .before .before .before .before .before in
     let lent = w .before .before .before .before .before .before .before .before .before .before .before .pre .0 .0 in
-    let k = c .before .before .before .before .seek .ensures in
-    (record { pivots = refl; rows = refl; symbols = refl }, λ q. take-denied lent q ((w .sift .ensures .1) q) k (omega (arith, c .before .before .before .if1 .left)) (c .before .first-other .ensures) (c .if2 .taken))
+    let k = c .before .before .before .before .seek .ensures in (
+      still _ _ _,
+      λ q. take-denied lent q (w .sift .ensures .1 q) k (omega (arith, c .before .before .before .if1 .left)) (c .before .first-other .ensures)
+          (c .if2 .taken),
+    )
 
 same-length-11 : tie.Need-same-length-11
 same-length-11 c = search needs
@@ -95,8 +97,11 @@ returns-3 : tie.Need-returns-3
 returns-3 c =
     let w = c .before .before .before .before .before .before .before .before .before .before in
     let lent = w .before .before .before .before .before .before .before .before .before .before .before .pre .0 .0 in
-    let k = c .before .before .before .before .seek .ensures in
-    (record { pivots = refl; rows = refl; symbols = refl }, λ q. take-followed lent q ((w .sift .ensures .1) q) k (omega (arith, c .before .before .before .if1 .left)) (c .before .first-other .ensures) (omega (arith, c .if2 .left)))
+    let k = c .before .before .before .before .seek .ensures in (
+      still _ _ _,
+      λ q. take-followed lent q (w .sift .ensures .1 q) k (omega (arith, c .before .before .before .if1 .left)) (c .before .first-other .ensures)
+          (omega (arith, c .if2 .left)),
+    )
 
 pub take-spec : {M : Type 1} → statement M
 take-spec =

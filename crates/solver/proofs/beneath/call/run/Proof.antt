@@ -23,9 +23,10 @@ fill-requires c κs = (c .before .before .before .before .before .before .before
 
 solve-stored-requires : tie.Need-solve-stored-requires
 solve-stored-requires c κs =
-    let s = c .before .before .before .before .before .before .before .before .before .before .before .before .before .before .before .before .before .before in
+    let l = c .before .before .before .before .before .before .before .before .before .before in
+    let s = l .before .before .before .before .before .before .before .before in
     let o = s .pre .fillable .sendable .rules in
-    rw (c .before .before .before .before .before .before .before .before .before .before .before .m .ensures, c .before .before .before .before .before .before .before .before .before .before .l .ensures) (search needs)
+    rw (l .before .m .ensures, l .l .ensures) (search needs)
 
 same-length : tie.Need-same-length
 same-length c = search needs
@@ -38,12 +39,15 @@ same-length-3 c = search needs
 
 returns : tie.Need-returns
 returns c =
-    let s = c .before .before .before .before .before .before .before .before .before .before .before .before .before .before .before .before .before .before .before .before .before .before .before .before .before in
+    let y = c .before .before .before .before .before .before in
+    let l = y .before .before .before .before .before .before .before .before .before .before .before in
+    let s = l .before .before .before .before .before .before .before .before in
     let a = s .args in
-    let e = rw (c .before .before .before .before .before .before .before .before .before .before .before .before .before .before .before .before .before .before .m .ensures, c .before .before .before .before .before .before .before .before .before .before .before .before .before .before .before .before .before .l .ensures) at (c .before .before .before .before .before .before .solve-stored .ensures) in
-    let f = c .before .before .before .before .before .before .before .before .before .before .before .before .before .before .fill .ensures in (
+    let e = rw (l .before .m .ensures, l .l .ensures) at (y .solve-stored .ensures) in
+    let f = y .before .before .before .before .before .before .before .before .fill .ensures in (
       e .answer (systemOf (a .r) (a .tables .now) (a .k) (a .t) (a .esis .now) (a .symbols .now))
-          (octet-symbols (hdpcRows (a .tables .now) (a .r)) (a .r) (a .tables .now) (a .k) (a .t) (a .esis .now) (a .symbols .now) (octets-blank (a .t) _ _) (λ x. omega (arith, c .before .before .before .before .before .before .before .before .before .before .before .before .before .before .before .before .before .before .before .before .before .before .shared-slice-known3 .given x)))
+          (octet-symbols (hdpcRows (a .tables .now) (a .r)) (a .r) (a .tables .now) (a .k) (a .t) (a .esis .now) (a .symbols .now)
+          (octets-blank (a .t) _ _) (λ x. omega (arith, l .before .before .before .before .before .shared-slice-known3 .given x)))
           (holds (a .r) (a .tables .now) (a .k) (a .t) (a .esis .now) (a .symbols .now) (s .pre .fillable .sendable) (f .0) (f .1) (s .pre .fillable .all)),
       (only-then (only (f .0 .size) (f .0 .high)) (e .rows), only-then (only (f .1 .size) (f .1 .high)) (e .symbols)),
     )
