@@ -60,10 +60,10 @@ fn begin(l: usize, c: usize) -> usize {
     c.saturating_sub((32 - (l - c) % 32) % 32)
 }
 
-/// The first column in which a row is not 0. What is 0 at the front is passed over by blocks, which are looked at whole.
-fn first_other(row: &[u8]) -> Option<usize> {
-    let blank = 64 * row.chunks_exact(64).take_while(|block| block.iter().copied().fold(0, u8::max) == 0).count();
-    row[blank..].iter().position(|x| *x != 0).map(|x| blank + x)
+/// The first column from `from` on in which a row is not 0, or its length. Zeros are passed over by blocks, which are looked at whole.
+fn first_other(row: &[u8], from: usize) -> usize {
+    let blank = 64 * row[from..].chunks_exact(64).take_while(|block| block.iter().copied().fold(0, u8::max) == 0).count();
+    (from + blank..row.len()).find(|c| row[*c] != 0).unwrap_or(row.len())
 }
 
 fn scale(row: &mut [u8], by: u8) {
@@ -106,9 +106,10 @@ impl System<'_> {
         self.row.copy_from_slice(&self.rows[i * l..][..l]);
         self.symbol.copy_from_slice(&self.values[i * t..][..t]);
         self.sift();
-        let Some(c) = first_other(&self.row) else {
-            return self.symbol.iter().all(|x| *x == 0);
-        };
+        let c = first_other(&self.row, 0);
+        if c == l {
+            return first_other(&self.symbol, 0) == t;
+        }
         self.make_one(c);
         self.rows[r * l..][..l].copy_from_slice(&self.row);
         self.values[r * t..][..t].copy_from_slice(&self.symbol);
@@ -122,13 +123,13 @@ impl System<'_> {
         for q in (0..l).rev() {
             let p = usize::from(self.pivots[q]);
             out[p * t..][..t].copy_from_slice(&self.values[q * t..][..t]);
-            for c in p + 1..l {
+            let mut c = first_other(&self.rows[q * l..][..l], p + 1);
+            while c < l {
                 let by = self.rows[q * l + c];
-                if by != 0 {
-                    let (front, back) = out.split_at_mut(c * t);
-                    add(&mut front[p * t..][..t], &back[..t], by);
-                    self.count(by);
-                }
+                let (front, back) = out.split_at_mut(c * t);
+                add(&mut front[p * t..][..t], &back[..t], by);
+                self.count(by);
+                c = first_other(&self.rows[q * l..][..l], c + 1);
             }
         }
     }

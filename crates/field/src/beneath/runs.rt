@@ -1,4 +1,4 @@
-// The octets' arithmetic on runs of bytes, place by place: every sum and product of symbols is made here.
+// The octets' arithmetic on runs of bytes, place by place: every sum and product of symbols is made here. And the search for an octet that is not 0.
 // Products are by doubling, which compiles to vector code; a table would be built anew in the frame of each call.
 ghost use mathlib.Core.Path.{_≡_};
 ghost use Prim.Native.Nat.{_+_, _<_, _≤_};
