@@ -7,13 +7,13 @@ use Prim.Native.Nat.{ℕ, _+_, _-_, _*_, _≤_, _<_}
 use native.Mathlib.Nat.{mul-le-mul-right}
 use native.Mathlib.Omega.{arith}
 use native.Mathlib.Decide.{ℕ-discrete}
-use lib.ListN.{getD}
+use lib.ListN.{length, getD}
 use Rattle.field.specs.Runs.{Written}
 use Rattle.linear.specs.System.{System, SameEquation, OneOf}
 use Rattle.linear.specs.Bytes.{Bytes, cell, storedSystem, OctetSymbols, ContradictionBytes, ShortfallBytes}
 use Rattle.linear.specs.Rows.{RowCopied, OnlyBelow, behind}
 use Rattle.linear.specs.Elimination.{Holds, Stepped, OneMore, alone}
-use Rattle.linear.proofs.Rows.{only-refl, only-past, only-trans, only-more, only-row}
+use Rattle.linear.proofs.Rows.{only-refl, only-past, only-then, only-trans, only-more, only-row}
 use Rattle.linear.proofs.Keeping.{holds-included, holds-trans, holds-more}
 use Rattle.linear.proofs.Elimination.{stepped-none, rank-at-most}
 use Rattle.linear.proofs.Finish.{held-denied, stepped-open, stepped-shortfall}
@@ -21,8 +21,11 @@ use Rattle.linear.proofs.Growth.{contradiction-remains}
 use Rattle.elimination.specs.Steps.{StoresRoom, Pivots, column}
 use Rattle.elimination.specs.Taking.{Lent, RoomForOne, Became}
 use Rattle.elimination.specs.Settling.{Settles}
-use Rattle.elimination.specs.Solving.{Under, Gone, HeldVerdict, progressed}
+use Rattle.elimination.specs.Solving.{Under, Gone, HeldVerdict, Reached, progressed}
 use Rattle.elimination.specs.Verdict.{Means, Answered}
+use Rattle.elimination.proofs.Steps.{room-kept}
+use Rattle.elimination.specs.declared.beneath.solving.Progress.{Progress}
+use Rattle.elimination.specs.declared.beneath.solving.Progress.the-variants as Progresses
 use Rattle.elimination.specs.declared.beneath.taking.Taken.{Taken}
 use Rattle.elimination.specs.declared.beneath.taking.Taken.the-variants.{Held, Dependent, Clash}
 use Rattle.elimination.specs.declared.verdict.Verdict.{Verdict}
@@ -119,15 +122,37 @@ module _ {L T i r : ℕ} {ps a₀ d₀ a d x₀ y₀ : List ℕ} (x y : List ℕ
 pub gone-more : (L T : ℕ) {i m : ℕ} (a₀ d₀ : List ℕ) → i ≤ m → ContradictionBytes L T (storedSystem i L T a₀ d₀) → ContradictionBytes L T (storedSystem m L T a₀ d₀)
 gone-more L T a₀ d₀ l c = contradiction-remains (λ k h. (k, omega arith, record { coefs = λ c l. refl; bytes = λ t l. refl })) c
 
+-- there is room as before, and the held rows stand in it
+pub taken-in : {M L T : ℕ} {a d a₁ d₁ : List ℕ} → StoresRoom M L T a d → OnlyBelow (M * L) a a₁ × OnlyBelow (M * T) d d₁ → StoresRoom M L T a₁ d₁
+taken-in room (ra, rd) = room-kept room (ra .size) (rd .size)
+
+pub pivots-kept : {L : ℕ} {ps ps₁ : List ℕ} → Pivots L ps → length ps₁ ≡ length ps → Pivots L ps₁
+pivots-kept p e = record { enough = omega (arith, p .enough, e); small = p .small }
+
+pub reached : {M L T : ℕ} {ps a d : List ℕ} (a₀ d₀ : List ℕ) (p : Progress) → StoresRoom M L T a d → Pivots L ps → Gone L T M ps a₀ d₀ a d p
+    → Reached L T ps a d p
+reached {ps = ps} a₀ d₀ (Progresses.Held r) room places u = lent-held ps (u .enough) room places (u .stands)
+reached a₀ d₀ Progresses.Clash room places u = tt
+
+-- what is left of the stores when their used parts were made 0, with the verdict v handed on as w
+abbrev Cleared : (M L T : ℕ) (a d a₁ d₁ : List ℕ) (v w : Verdict) → Type 0
+Cleared M L T a d a₁ d₁ v w = Written (λ _. 0) a a₁ 0 (M * L) × (Written (λ _. 0) d d₁ 0 (M * T) × (w ≡ v))
+
 -- what no set fits stays so for every system that the stores held
-pub answered-clash : {M L T : ℕ} (a d o : List ℕ) {a₁ d₁ : List ℕ} → Bytes d → ContradictionBytes L T (storedSystem M L T a d) → Written (λ _. 0) a a₁ 0 (M * L)
-    → Written (λ _. 0) d d₁ 0 (M * T) → Answered M L T a d o a₁ d₁ o Contradiction
-answered-clash a d o bd u wa wd = record { answer = λ S small first. (held-denied first bd u, refl); rows = wa; symbols = wd }
+pub answered-clash : {M L T : ℕ} (a d o : List ℕ) {a₂ d₂ a₁ d₁ : List ℕ} {w : Verdict} → Bytes d → ContradictionBytes L T (storedSystem M L T a d)
+    → OnlyBelow (M * L) a a₂ × OnlyBelow (M * T) d d₂ → Cleared M L T a₂ d₂ a₁ d₁ Contradiction w → Answered M L T a d o a₁ d₁ o w
+answered-clash a d o bd u (ra, rd) (wa, (wd, is)) =
+    rw is (record { answer = λ S small first. (held-denied first bd u, refl); rows = only-then ra wa; symbols = only-then rd wd })
 
 -- what r held equations come to, in the stores a₂ and d₂
-pub answered-held : {M L T r : ℕ} (ps a d o a₂ d₂ : List ℕ) {a₁ d₁ o₁ : List ℕ} (v : Verdict) → 0 < T → Under L T M r ps a d a₂ d₂
-    → Settles L T r ps a₂ d₂ o o₁ → HeldVerdict L r v → Written (λ _. 0) a a₁ 0 (M * L) → Written (λ _. 0) d d₁ 0 (M * T) → Answered M L T a d o a₁ d₁ o₁ v
-answered-held {M} {L} {T} {r} ps a d o a₂ d₂ {o₁ = o₁} v pos u e h wa wd = record { answer = λ S small first. means S small (holds-trans first (u .holds)) v h; rows = wa; symbols = wd }
+pub answered-held : {M L T r : ℕ} (ps a d o a₂ d₂ : List ℕ) {a₁ d₁ o₁ : List ℕ} (v : Verdict) {w : Verdict} → 0 < T → Under L T M r ps a d a₂ d₂
+    → Settles L T r ps a₂ d₂ o o₁ → HeldVerdict L r v → Cleared M L T a₂ d₂ a₁ d₁ v w → Answered M L T a d o a₁ d₁ o₁ w
+answered-held {M} {L} {T} {r} ps a d o a₂ d₂ {o₁ = o₁} v pos u e h (wa, (wd, is)) =
+    rw is (record {
+      answer = λ S small first. means S small (holds-trans first (u .holds)) v h;
+      rows = only-then (u .rows) wa;
+      symbols = only-then (u .symbols) wd;
+    })
   where
     means : (S : System ℕ) → OctetSymbols T S → Holds r L T S a₂ d₂ → (w : Verdict) → HeldVerdict L r w → Means L T S o o₁ w
     means S small holds Solved full = (e .solved full pos (u .stands) S small holds, e .past)

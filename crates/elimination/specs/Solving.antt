@@ -7,6 +7,7 @@ use Rattle.linear.specs.Bytes.{storedSystem, ContradictionBytes}
 use Rattle.linear.specs.Rows.{OnlyBelow}
 use Rattle.linear.specs.Elimination.{Holds, Stepped}
 use Rattle.elimination.specs.Steps.{column}
+use Rattle.elimination.specs.Taking.{Lent}
 use Rattle.elimination.specs.declared.beneath.solving.Progress.{Progress}
 use Rattle.elimination.specs.declared.beneath.solving.Progress.the-variants as Progresses
 use Rattle.elimination.specs.declared.beneath.taking.Taken.{Taken}
@@ -38,3 +39,8 @@ abbrev pub HeldVerdict : (L r : ℕ) → Verdict → Type 0
 HeldVerdict L r Solved = L ≤ r
 HeldVerdict L r Contradiction = ⊥
 HeldVerdict L r (Open s) = (r < L) × (s ≡ L - r)
+
+-- the held rows, if none is denied, stand there with their pivots
+abbrev pub Reached : (L T : ℕ) (ps a d : List ℕ) → Progress → Type 0
+Reached L T ps a d (Progresses.Held r) = Lent L T r ps a d
+Reached L T ps a d Progresses.Clash = Unit {0}

@@ -30,7 +30,8 @@ blank-next xs {x = x} b z k h l = go (decLt k x)
     go (no q) = let e : k ≡ x = omega arith in ap (λ (j : ℕ). getD xs j 0) e ∙ z
 
 -- all is 0 before x, and no octet of the n behind it is above 0
-pub blank-part : (xs : List ℕ) {from : ℕ} (x n : ℕ) {m : ℕ} → x + n ≤ length xs → Blank xs from x → AtMost m (take (x + n - x) (drop x xs)) → m ≤ 0 → Blank xs from (x + n)
+pub blank-part : (xs : List ℕ) {from : ℕ} (x n : ℕ) {m : ℕ} → x + n ≤ length xs → Blank xs from x → AtMost m (take (x + n - x) (drop x xs)) → m ≤ 0
+    → Blank xs from (x + n)
 blank-part xs x n {m} fits b a e k h l = go (decLt k x)
   where
     go : Dec (k < x) → getD xs k 0 ≡ 0

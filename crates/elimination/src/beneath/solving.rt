@@ -9,7 +9,7 @@ ghost use Rattle.linear.specs.Rows.{OnlyBelow};
 ghost use Rattle.linear.specs.Elimination.{Stepped};
 ghost use Rattle.elimination.specs.Steps.{Pivots, StoresRoom, column};
 ghost use Rattle.elimination.specs.Taking.{Wide};
-ghost use Rattle.elimination.specs.Solving.{Gone, HeldVerdict, Under, progressed};
+ghost use Rattle.elimination.specs.Solving.{Gone, HeldVerdict, Reached, Under, progressed};
 ghost use Rattle.elimination.specs.Verdict.{Answered};
 use crate::beneath::rows;
 use crate::beneath::settling;
@@ -100,6 +100,7 @@ fn forward_in(
 ) -> Progress
     requires { ⌜ StoresRoom m l t (now rows) (now values) × Pivots l (now pivots) × (l ≤ length (now row)) × (t ≤ length (now symbol)) ⌝ }
     ensures { λ _. ⌜ OnlyBelow (m * l) (now (rows .entry)) (now (rows .exit)) × OnlyBelow (m * t) (now (values .entry)) (now (values .exit)) ⌝ }
+    ensures { λ p. ⌜ StoresRoom m l t (now (rows .exit)) (now (values .exit)) × Reached l t (now (pivots .exit)) (now (rows .exit)) (now (values .exit)) p ⌝ }
     ensures { λ p. ⌜ Gone l t m (now (pivots .exit)) (now (rows .entry)) (now (values .entry)) (now (rows .exit)) (now (values .exit)) p ⌝ }
 {
     forward(

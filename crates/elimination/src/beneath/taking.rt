@@ -30,7 +30,8 @@ fn sift(
     requires { ⌜ Lent l t r (now pivots) (now rows) (now values) × Wide l t (now row) (now symbol) ⌝ }
     ensures { λ _. ⌜ Wide l t (now (row .exit)) (now (symbol .exit)) ⌝ }
     ensures { λ _. ⌜ (Stepped l r (column (now (pivots .entry))) (now (rows .entry)) (now (values .entry))
-        → Swept l t r r (now (pivots .entry)) (now (rows .entry)) (now (values .entry)) (now (row .entry)) (now (symbol .entry)) (now (row .exit)) (now (symbol .exit))) ⌝ }
+        → Swept l t r r (now (pivots .entry)) (now (rows .entry)) (now (values .entry))
+        (now (row .entry)) (now (symbol .entry)) (now (row .exit)) (now (symbol .exit))) ⌝ }
 {
     let mut k = rows::next_pivot(row, pivots, 0, r);
     while k < r {

@@ -1,5 +1,6 @@
 -- `solver::solver::room` meets its contract, one store after the other.
 -- Assumes nothing.
+use Prim.Native.Nat.{_≤_}
 use native.Mathlib.Nat.{mul-le-mul}
 use native.Mathlib.Omega.{arith}
 use borrow.Author.Tests.{lt-ltb, le-ltb}
@@ -22,7 +23,8 @@ mul-if1 : tie.Need-mul-if1
 mul-if1 c =
     let s = c .before .before in
     let o : Obeys (s .args .r) = s .pre .0 in
-    rw (c .before .m .ensures, c .l .ensures) (omega (arith, mul-le-mul {n₁ = equations (s .args .r) (s .args .k) (s .args .n)} {m₁ = lOf (s .args .r)} {n₂ = 200000} {m₂ = 65535} (omega (arith, o .l-high, s .pre .2)) (o .l-high)))
+    let few : equations (s .args .r) (s .args .k) (s .args .n) ≤ 200000 = omega (arith, o .l-high, s .pre .2) in
+    rw (c .before .m .ensures, c .l .ensures) (omega (arith, mul-le-mul few (o .l-high)))
 
 returns : tie.Need-returns
 returns c = simp (lt-ltb _ _ (rw (c .before .before .m .ensures, c .before .l .ensures) at (c .if1 .taken)))
@@ -31,10 +33,14 @@ mul-if2 : tie.Need-mul-if2
 mul-if2 c =
     let s = c .before .before .before in
     let o : Obeys (s .args .r) = s .pre .0 in
-    rw (c .before .before .m .ensures) (omega (arith, mul-le-mul {n₁ = equations (s .args .r) (s .args .k) (s .args .n)} {m₁ = s .args .t} {n₂ = 200000} {m₂ = 65535} (omega (arith, o .l-high, s .pre .2)) (omega arith)))
+    let few : equations (s .args .r) (s .args .k) (s .args .n) ≤ 200000 = omega (arith, o .l-high, s .pre .2) in
+    let wide : s .args .t ≤ 65535 = omega arith in
+    rw (c .before .before .m .ensures) (omega (arith, mul-le-mul few wide))
 
 returns-2 : tie.Need-returns-2
-returns-2 c = simp (le-ltb _ _ (rw (c .before .before .before .m .ensures, c .before .before .l .ensures) at (c .before .if1 .left)), lt-ltb _ _ (rw (c .before .before .before .m .ensures) at (c .if2 .taken)))
+returns-2 c =
+    let m = c .before .before .before .m .ensures in
+    simp (le-ltb _ _ (rw (m, c .before .before .l .ensures) at (c .before .if1 .left)), lt-ltb _ _ (rw m at (c .if2 .taken)))
 
 mul-if3 : tie.Need-mul-if3
 mul-if3 c =
@@ -43,10 +49,16 @@ mul-if3 c =
     rw (c .before .before .l .ensures) (omega (arith, mul-le-mul {n₁ = lOf (s .args .r)} {m₁ = s .args .t} {n₂ = 65535} {m₂ = 65535} (o .l-high) (omega arith)))
 
 returns-3 : tie.Need-returns-3
-returns-3 c = simp (le-ltb _ _ (rw (c .before .before .before .before .m .ensures, c .before .before .before .l .ensures) at (c .before .before .if1 .left)), le-ltb _ _ (rw (c .before .before .before .before .m .ensures) at (c .before .if2 .left)), lt-ltb _ _ (rw (c .before .before .before .l .ensures) at (c .if3 .taken)))
+returns-3 c =
+    let m = c .before .before .before .before .m .ensures in
+    let l = c .before .before .before .l .ensures in
+    simp (le-ltb _ _ (rw (m, l) at (c .before .before .if1 .left)), le-ltb _ _ (rw m at (c .before .if2 .left)), lt-ltb _ _ (rw l at (c .if3 .taken)))
 
 returns-4 : tie.Need-returns-4
-returns-4 c = simp (le-ltb _ _ (rw (c .before .before .before .before .m .ensures, c .before .before .before .l .ensures) at (c .before .before .if1 .left)), le-ltb _ _ (rw (c .before .before .before .before .m .ensures) at (c .before .if2 .left)), le-ltb _ _ (rw (c .before .before .before .l .ensures) at (c .if3 .left)))
+returns-4 c =
+    let m = c .before .before .before .before .m .ensures in
+    let l = c .before .before .before .l .ensures in
+    simp (le-ltb _ _ (rw (m, l) at (c .before .before .if1 .left)), le-ltb _ _ (rw m at (c .before .if2 .left)), le-ltb _ _ (rw l at (c .if3 .left)))
 
 pub room-spec : {M : Type 1} → statement M
 room-spec = tie.close (tie.spec m-requires l-requires cast-l mul-if1 returns mul-if2 returns-2 mul-if3 returns-3 returns-4)

@@ -12,7 +12,9 @@ use Rattle.delivery.proofs.beneath.screen.screen_packets.Statement.{sta
 use Rattle.delivery.proofs.beneath.screen.screen_packets.Tie as tie
 
 -- what the screen of the length told, of the equations that row and K fix
-told : (c : tie.After-screen-length) → let a = c .before .before .before .args in screened (c .screen-length .result) ≡ lengthScreen (length (a .bytes .now)) (a .t) (fixed (a .r) (a .k))
+told : (c : tie.After-screen-length)
+    → let a = c .before .before .before .args in
+    screened (c .screen-length .result) ≡ lengthScreen (length (a .bytes .now)) (a .t) (fixed (a .r) (a .k))
 told c = let a = c .before .before .before .args in c .screen-length .ensures ∙ ap (lengthScreen (length (a .bytes .now)) (a .t)) (c .before .fixed .ensures)
 
 fixed-requires : tie.Need-fixed-requires
@@ -32,25 +34,37 @@ returns c = stopped-at (c .before .before .screen-length .result) (told (c .befo
 
 count-requires : tie.Need-count-requires
 count-requires c κs =
-    let s = c .before .before .before .before .before in
-    let l = length-sound (length (s .args .bytes .now)) (s .args .t) (fixed (s .args .r) (s .args .k)) (all-passed (c .before .before .screen-length .result) (told (c .before .before)) (c .enum-told .given .1)) in
+    let d = c .before .before in
+    let s = d .before .before .before in
+    let p = all-passed (d .screen-length .result) (told d) (c .enum-told .given .1) in
+    let l = length-sound (length (s .args .bytes .now)) (s .args .t) (fixed (s .args .r) (s .args .k)) p in
     (l .whole, s .pre .4)
 
 one-block-requires : tie.Need-one-block-requires
 one-block-requires c κs =
-    let s = c .before .before .before .before .before .before in
-    let l = length-sound (length (s .args .bytes .now)) (s .args .t) (fixed (s .args .r) (s .args .k)) (all-passed (c .before .before .before .screen-length .result) (told (c .before .before .before)) (c .before .enum-told .given .1)) in
+    let d = c .before .before .before in
+    let s = d .before .before .before in
+    let p = all-passed (d .screen-length .result) (told d) (c .before .enum-told .given .1) in
+    let l = length-sound (length (s .args .bytes .now)) (s .args .t) (fixed (s .args .r) (s .args .k)) p in
     (packets-in (s .args .t) (c .count .ensures) (l .full), s .pre .4, omega (arith, c .count .ensures, l .few))
 
 returns-2 : tie.Need-returns-2
 returns-2 c =
-    let s = c .before .before .before .before .before .before .before .before in
-    other-block (s .args .bytes .now) (s .args .r) (s .args .k) (s .args .t) (c .before .before .before .before .before .screen-length .result) (told (c .before .before .before .before .before)) (c .before .before .before .enum-told .given .1) (c .before .before .count .result) (c .before .before .count .ensures) (denied (c .before .one-block .result) (c .if1 .taken) (c .before .one-block .ensures))
+    let n = c .before .before in
+    let d = n .before .before .before in
+    let a = d .before .before .before .args in
+    let b = denied (c .before .one-block .result) (c .if1 .taken) (c .before .one-block .ensures) in
+    other-block (a .bytes .now) (a .r) (a .k) (a .t) (d .screen-length .result) (told d) (n .before .enum-told .given .1)
+    (n .count .result) (n .count .ensures) b
 
 returns-3 : tie.Need-returns-3
 returns-3 c =
-    let s = c .before .before .before .before .before .before .before .before in
-    one-block (s .args .bytes .now) (s .args .r) (s .args .k) (s .args .t) (c .before .before .before .before .before .screen-length .result) (told (c .before .before .before .before .before)) (c .before .before .before .enum-told .given .1) (c .before .before .count .result) (c .before .before .count .ensures) (granted (c .before .one-block .result) (c .if1 .left) (c .before .one-block .ensures))
+    let n = c .before .before in
+    let d = n .before .before .before in
+    let a = d .before .before .before .args in
+    let b = granted (c .before .one-block .result) (c .if1 .left) (c .before .one-block .ensures) in
+    one-block (a .bytes .now) (a .r) (a .k) (a .t) (d .screen-length .result) (told d) (n .before .enum-told .given .1)
+    (n .count .result) (n .count .ensures) b
 
 pub screen-packets-spec : {M : Type 1} → statement M
 screen-packets-spec =

@@ -10,7 +10,10 @@ slice-read-f : tie.Need-slice-read-f
 slice-read-f c = search needs
 
 returns : tie.Need-returns
-returns c = (times-none (λ x. omega (arith, c .before .before .before .slice-known .given x)) (c .if1 .taken), times-none (λ x. omega (arith, c .before .before .slice-known2 .given x)) (c .if1 .taken))
+returns c =
+    let f = c .before .before in
+    let one = c .if1 .taken in
+    (times-none (λ x. omega (arith, f .before .slice-known .given x)) one, times-none (λ x. omega (arith, f .slice-known2 .given x)) one)
 
 inverse-requires : tie.Need-inverse-requires
 inverse-requires c κs = search needs

@@ -60,8 +60,9 @@ loop-again c =
     let v = c .before .before .before .before .before .before in
     let q = v .loop .q in
     let b = c .before .before .bring .ensures in
-    let h : q - 1 < v .before .before .before .before .before .before .args .r = omega (arith, c .before .before .before .before .before .loop-test .taken, v .loop .inv .0) in
-    let e : q ≡ q - 1 + 1 = omega (arith, c .before .before .before .before .before .loop-test .taken) in (
+    let more = c .before .before .before .before .before .loop-test .taken in
+    let h : q - 1 < v .before .before .before .before .before .before .args .r = omega (arith, more, v .loop .inv .0) in
+    let e : q ≡ q - 1 + 1 = omega (arith, more) in (
       omega (arith, v .loop .inv .0),
       only-trans (v .loop .inv .1) (b .0),
       λ x. omega (arith, c .slice-known2 .given x),

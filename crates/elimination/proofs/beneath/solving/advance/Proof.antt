@@ -25,8 +25,8 @@ take-requires c κs =
 
 held-now-requires : tie.Need-held-now-requires
 held-now-requires c κs =
-    let k = c .before .before .before .before .before .before .before .before .before .before .before .before in
-    let s = k .before .before .before .before .before .before .before .before .before .before .before .before .before .before .before .before .before .before .before in
+    let k = c .before .before .before .before .before .before .before .before .before .before .before .before .before .before .before .before in
+    let s = k .before .before .before .before .before .before .before .before .before .before .before .before .before .before .before in
     omega (arith, rank-at-most (s .pre .1), s .pre .0 .1 .small)
 
 same-length : tie.Need-same-length
@@ -52,8 +52,8 @@ returns c =
     let a = s .args in
     let x = y .before .before .before .before .before .copy-row in
     let lent = lent-held _ (omega (arith, s .pre .0 .3)) (s .pre .0 .0) (s .pre .0 .1) (s .pre .1) in (
-      became-only (a .l) (a .t) (a .pivots .now) (a .rows .now) (a .values .now) (x .last .1 .0) (y .copy-row2 .last .1 .0) (k .take .last .1 .1 .0) (k .take .last .0) (k .take .last .1 .0)
-          (s .pre .0 .3) (k .take .result) (k .take .ensures),
+      became-only (a .l) (a .t) (a .pivots .now) (a .rows .now) (a .values .now) (x .last .1 .0) (y .copy-row2 .last .1 .0)
+          (k .take .last .1 .1 .0) (k .take .last .0) (k .take .last .1 .0) (s .pre .0 .3) (k .take .result) (k .take .ensures),
       λ a₀ d₀ u. rw (c .held-now .ensures) (gone _ _ u (x .ensures) (y .copy-row2 .ensures) lent
           (k .take .last .1 .1 .0) (k .take .last .0) (k .take .last .1 .0) (k .take .result) (k .take .ensures)),
     )

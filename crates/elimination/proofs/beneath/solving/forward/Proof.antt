@@ -69,10 +69,14 @@ same-length-3 : tie.Need-same-length-3 Inv-loop μ-loop
 same-length-3 c = let x = c .before .before in omega (arith, head x .loop .inv .3, call x .advance .kept)
 
 same-length-4 : tie.Need-same-length-4 Inv-loop μ-loop
-same-length-4 c = let x = c .before .before in omega (arith, head x .loop .inv .1 .row, head x .before .before .before .before .before .before .pre .2 .row, call x .advance .kept)
+same-length-4 c =
+    let x = c .before .before in
+    omega (arith, head x .loop .inv .1 .row, head x .before .before .before .before .before .before .pre .2 .row, call x .advance .kept)
 
 same-length-5 : tie.Need-same-length-5 Inv-loop μ-loop
-same-length-5 c = let x = c .before .before in omega (arith, head x .loop .inv .1 .symbol, head x .before .before .before .before .before .before .pre .2 .symbol, call x .advance .kept)
+same-length-5 c =
+    let x = c .before .before in
+    omega (arith, head x .loop .inv .1 .symbol, head x .before .before .before .before .before .before .pre .2 .symbol, call x .advance .kept)
 
 returns : tie.Need-returns Inv-loop μ-loop
 returns c =

@@ -3,6 +3,7 @@
 use mathlib.Core.Path.{sym}
 use borrow.Author.Needs.{needs}
 use lib.Seq.{length-take-le}
+use Rattle.elimination.proofs.Solving.{taken-in, pivots-kept, reached}
 use Rattle.elimination.proofs.beneath.solving.forward_in.Statement.{statement}
 use Rattle.elimination.proofs.beneath.solving.forward_in.Tie as tie
 
@@ -10,13 +11,17 @@ slice-relend-prefix-forward : tie.Need-slice-relend-prefix-forward
 slice-relend-prefix-forward c = search needs
 
 slice-aggregate-forward : tie.Need-slice-aggregate-forward
-slice-aggregate-forward c = let s = c .before .before .before .before .before .before .before .before .before in sym (length-take-le (s .args .l) (s .args .row .now) (s .pre .2))
+slice-aggregate-forward c =
+    let s = c .before .before .before .before .before .before .before .before .before in
+    sym (length-take-le (s .args .l) (s .args .row .now) (s .pre .2))
 
 slice-relend-prefix-forward-2 : tie.Need-slice-relend-prefix-forward-2
 slice-relend-prefix-forward-2 c = search needs
 
 slice-aggregate-forward-2 : tie.Need-slice-aggregate-forward-2
-slice-aggregate-forward-2 c = let s = c .before .before .before .before .before .before .before .before .before .before in sym (length-take-le (s .args .t) (s .args .symbol .now) (s .pre .3))
+slice-aggregate-forward-2 c =
+    let s = c .before .before .before .before .before .before .before .before .before .before in
+    sym (length-take-le (s .args .t) (s .args .symbol .now) (s .pre .3))
 
 forward-requires : tie.Need-forward-requires
 forward-requires c κs =
@@ -39,7 +44,13 @@ same-length-5 : tie.Need-same-length-5
 same-length-5 c = search needs
 
 returns : tie.Need-returns
-returns c = search needs
+returns c =
+    let f = c .before .before .before .before .before .before .before .before .before .before in
+    let s = f .before .before .before .before .before .before .before .before .before .before .before in
+    let e = f .forward .ensures in
+    let room = taken-in (s .pre .0) (e .0) in
+    let places = pivots-kept (s .pre .1) (f .forward .kept .1 .1 .0) in
+    (e .0, ((room, reached _ _ (f .forward .result) room places (e .1)), e .1))
 
 pub forward-in-spec : {M : Type 1} → statement M
 forward-in-spec =

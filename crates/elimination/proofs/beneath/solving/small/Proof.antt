@@ -2,10 +2,7 @@
 -- Assumes nothing.
 use native.Mathlib.Omega.{arith}
 use Rattle.linear.specs.Bytes.{Bytes}
-use Rattle.linear.proofs.Rows.{only-then}
-use Rattle.elimination.specs.Steps.{Pivots}
-use Rattle.elimination.proofs.Steps.{room-kept}
-use Rattle.elimination.proofs.Solving.{lent-held, answered-clash, answered-held}
+use Rattle.elimination.proofs.Solving.{answered-clash, answered-held}
 use borrow.Author.Needs.{needs}
 use Rattle.elimination.proofs.beneath.solving.small.Statement.{statement}
 use Rattle.elimination.proofs.beneath.solving.small.Tie as tie
@@ -39,31 +36,27 @@ same-length-2 c = search needs
 
 returns : tie.Need-returns
 returns c =
-    let e = c .before .before .before .before .before .before .before .before .before .before .before .before .before .before .before .before in
-    let s = e .before .before .before .before .before .before .before .before .before in
-    let bytes : Bytes (s .args .values .now) = λ x. omega (arith, e .before .before .before .before .before .before .before .slice-known2 .given x) in
-    let z = c .before .before .before .before .emptied .ensures in
-    let none = rw (c .before .before .before .before .before .before .before .enum-told .given .1) at (e .forward-in .ensures .1) in
-    rw (z .1 .1) (answered-clash _ _ _ bytes none (only-then (e .forward-in .ensures .0 .0) (z .0)) (only-then (e .forward-in .ensures .0 .1) (z .1 .0)))
+    let y = c .before .before .before .before in
+    let f = y .before .before .before .before .before .before .before .before .before .before .before .before in
+    let b = f .before .before .before .before .before .before .before in
+    let bytes : Bytes (b .before .before .args .values .now) = λ x. omega (arith, b .slice-known2 .given x) in
+    let none = rw (y .before .before .before .enum-told .given .1) at (f .forward-in .ensures .1 .1) in
+    answered-clash _ _ _ bytes none (f .forward-in .ensures .0) (y .emptied .ensures)
 
 slice-aggregate-settle : tie.Need-slice-aggregate-settle
 slice-aggregate-settle c = search needs
 
 settle-requires : tie.Need-settle-requires
 settle-requires c κs =
-    let s = c .before .before .before .before .before .before .before .before .before .before .before .before .before .before .before .before .before .before .before .before .before .before .before in
-    let e = c .before .before .before .before .before .before .before .before .before .before .before .before .before .before .forward-in in
-    let u = rw (c .before .before .before .before .before .p .given .1) at (e .ensures .1) in
-    let places : Pivots (s .args .l) (e .last .1 .1 .0) = record { enough = omega (arith, s .pre .3, e .kept .1 .1 .0); small = omega (arith, s .pre .3) } in
-    (lent-held (e .last .1 .1 .0) (u .enough) (room-kept (s .pre .0) (e .ensures .0 .0 .size) (e .ensures .0 .1 .size)) places (u .stands), s .pre .1)
+    let p = c .before .before .before .before .before in
+    let f = p .before .before .before .before .before .before .before .before .before in
+    (rw (p .p .given .1) at (f .forward-in .ensures .1 .0 .1), f .before .before .before .before .before .before .before .before .before .pre .1)
 
 counted-requires : tie.Need-counted-requires
 counted-requires c κs = search needs
 
 emptied-requires-2 : tie.Need-emptied-requires-2
-emptied-requires-2 c κs =
-    let e = c .before .before .before .before .before .before .before .before .before .before .before .before .before .before .before .before .before .before .before .before in
-    room-kept (e .before .before .before .before .before .before .before .before .before .pre .0) (e .forward-in .ensures .0 .0 .size) (e .forward-in .ensures .0 .1 .size)
+emptied-requires-2 c κs = search needs
 
 same-length-3 : tie.Need-same-length-3
 same-length-3 c = search needs
@@ -77,12 +70,12 @@ same-length-5 c = search needs
 returns-2 : tie.Need-returns-2
 returns-2 c =
     let n = c .before .before .before .before .before in
-    let e = n .before .before .before .before .before .before .before .before .before .before .before .before .before .before .before .before .before .before .before .before in
-    let s = e .before .before .before .before .before .before .before .before .before in
-    let u = rw (n .before .before .before .before .before .before .before .before .before .before .before .p .given .1) at (e .forward-in .ensures .1) in
-    let z = c .before .before .before .before .emptied2 .ensures in
-    rw (z .1 .1) (answered-held (e .forward-in .last .1 .1 .0) _ _ _ (e .forward-in .last .0) (e .forward-in .last .1 .0) (n .counted .result) (s .pre .2) u
-    (n .before .before .before .before .before .settle .ensures) (n .counted .ensures) (only-then (e .forward-in .ensures .0 .0) (z .0)) (only-then (e .forward-in .ensures .0 .1) (z .1 .0)))
+    let k = n .before .before .before .before .before in
+    let p = k .before .before .before .before .before .before in
+    let f = p .before .before .before .before .before .before .before .before .before in
+    let u = rw (p .p .given .1) at (f .forward-in .ensures .1 .1) in
+    let s = f .before .before .before .before .before .before .before .before .before in
+    answered-held _ _ _ _ _ _ (n .counted .result) (s .pre .2) u (k .settle .ensures) (n .counted .ensures) (c .before .before .before .before .emptied2 .ensures)
 
 pub small-spec : {M : Type 1} → statement M
 small-spec =

@@ -16,8 +16,9 @@ seek-requires c κs = search needs
 hold-requires : tie.Need-hold-requires
 hold-requires c κs =
     let h = c .before .before .before .before .before in
-    let s = h .before .before .before .before .before .before .before .before .before .before .before .before .before .before .before .before .before .before in
-    (s .pre .1 .2 (h .before .seek .ensures .vacant (h .if1 .taken)), h .before .before .before .before .before .before .before .sift .ensures .0, (h .if1 .taken), s .pre .1 .1)
+    let w = h .before .before .before .before .before .before .before in
+    let s = w .before .before .before .before .before .before .before .before .before .before .before in
+    (s .pre .1 .2 (h .before .seek .ensures .vacant (h .if1 .taken)), w .sift .ensures .0, h .if1 .taken, s .pre .1 .1)
 
 same-length : tie.Need-same-length
 same-length c = search needs

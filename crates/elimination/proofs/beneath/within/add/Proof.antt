@@ -20,8 +20,9 @@ same-length c = search needs
 
 returns : tie.Need-returns
 returns c =
-    let s = c .before .before .before .before .before .before .args in
-    rw (c .before .before .before .before .if1 .taken) (row-added-once (s .i) (s .k) (λ x. omega (arith, c .before .before .before .before .before .slice-known .given x)) (c .before .before .sum .ensures))
+    let i = c .before .before .before .before in
+    let s = i .before .before .args in
+    rw (i .if1 .taken) (row-added-once (s .i) (s .k) (λ x. omega (arith, i .before .slice-known .given x)) (c .before .before .sum .ensures))
 
 fuse-requires : tie.Need-fuse-requires
 fuse-requires c κs = search needs

@@ -52,11 +52,12 @@ loop-less c = search needs
 loop-again : tie.Need-loop-again Inv-loop μ-loop
 loop-again c =
     let a = c .before .before .before .before .before .before in
-    let v = c .before .before .before .before .loop .inv .1 in
+    let l = c .before .before .before .before .loop in
+    let v = l .inv .1 in
     let h = c .before .before .before .loop-test .taken in (
       omega (arith, h),
       written-more v (omega arith) (omega (arith, h, a .pre .to-in)) (ap₂ plus (written-next v)
-          (c .mul .ensures ∙ times-comm _ (a .args .f) ∙ ap (times (a .args .f)) (apart-still v (a .pre) (omega arith) (c .before .before .before .before .loop .c) h))),
+          (c .mul .ensures ∙ times-comm _ (a .args .f) ∙ ap (times (a .args .f)) (apart-still v (a .pre) (omega arith) (l .c) h))),
     )
 
 same-length : tie.Need-same-length Inv-loop μ-loop

@@ -14,8 +14,9 @@ same-length c = search needs
 
 returns : tie.Need-returns
 returns c =
-    let s = c .before .before .before .before .before .before .before .args in
-    added-fused (s .src .now) (s .c) (c .before .before .before .before .if1 .taken) (λ x. omega (arith, c .before .before .before .before .before .shared-slice-known .given x)) (c .before .before .add .ensures)
+    let i = c .before .before .before .before in
+    let s = i .before .before .before .args in
+    added-fused (s .src .now) (s .c) (i .if1 .taken) (λ x. omega (arith, i .before .shared-slice-known .given x)) (c .before .before .add .ensures)
 
 fma-requires : tie.Need-fma-requires
 fma-requires c κs = search needs
