@@ -22,12 +22,11 @@ fn fill(r: Row, tables: &[u32], isis: &[u32], ws: &mut [u64], zeros: u32)
     let s = r.s as usize;
     let from = s + zeros as usize;
     let height = from + isis.len();
-    let width = row::l(r) as usize;
+    let width = r.l as usize;
     let m = DenseBinaryMatrix { height, width };
-    let p = row::p(r);
     words::clear(ws, height * ((width + 63) / 64));
-    adding::ldpc_rows(ws, m, s, r.w as usize, p as usize);
-    adding::enc_rows(ws, m, from, tables, isis, r.j, r.w, p, row::p1(r));
+    adding::ldpc_rows(ws, m, s, r.w as usize, r.b as usize, r.p as usize);
+    adding::enc_rows(ws, m, from, tables, isis, r.j, r.w, r.p, r.p1);
 }
 
 // With `zeros` rows of 0 after the LDPC rows, of at least `least` ids.
@@ -46,7 +45,7 @@ fn build(r: Row, tables: &[u32], isis: &[u32], ws: &mut [u64], zeros: u32, least
         return Made::Refused(Refusal::BadCount);
     }
     let height = (r.s + zeros) as usize + count;
-    let width = row::l(r) as usize;
+    let width = r.l as usize;
     if ws.len() < height * ((width + 63) / 64) {
         return Made::Refused(Refusal::WrongLength);
     }

@@ -38,6 +38,13 @@ crosses o =
       all = omega (arith, o .l-high, l-is o);
     }
 
+-- the same of the numbers that the record carries
+pub own-walks : {r : Row} → Obeys r → Walks (r .w) (r .p) (r .p1)
+own-walks o = rw (o .derived .p-fits, o .derived .p1-fits) (walks o)
+
+pub own-crosses : {r : Row} → Obeys r → Crosses (r .s) (r .w) (r .p)
+own-crosses o = rw (o .derived .p-fits) (crosses o)
+
 within : (low n high : ℕ) → Tells (from low n high) ((low ≤ n) × (n < high))
 within low n high = tells-both (tells-le low n) (tells-lt n high)
 

@@ -3,7 +3,7 @@
 use mathlib.Core.List.{List, [], _∷_, _++_}
 use Rattle.field.specs.Ones.{ones}
 use Rattle.field.specs.Examples.{Example}
-use Rattle.headers.specs.Row.{lOf}
+use Rattle.headers.specs.Row.{lOf, rowOf}
 use Rattle.headers.specs.declared.row.Row.{Row}
 use Rattle.headers.specs.Examples as headers
 use Rattle.constraints.specs.Answers.{placesOf}
@@ -11,7 +11,7 @@ use Rattle.constraints.specs.Ldpc.{ldpcOf}
 
 -- the first row of Table 2
 abbrev pub firstRow : Row
-firstRow = record { kp = 10; j = 254; s = 7; h = 10; w = 17 }
+firstRow = rowOf 10 254 7 10 17
 
 -- tuple (2,3,16,2,4,10) gives 16, 2, 20, 24; (1,1,0,3,1,9) gives 0, 26, 17, 18
 abbrev walks : List Example

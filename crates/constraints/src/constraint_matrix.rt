@@ -62,15 +62,14 @@ pub fn enc_indices(r: Row, t: Tuple, list: &mut [u32]) -> Number
     if !row::obeys(r) {
         return Number::Refused(Refusal::BadRow);
     }
-    let p1 = row::p1(r);
-    if !bounded(r.w, p1, t) {
+    if !bounded(r.w, r.p1, t) {
         return Number::Refused(Refusal::OutOfRange);
     }
     let n = t.d + t.d1;
     if list.len() < n as usize {
         return Number::Refused(Refusal::WrongLength);
     }
-    walk::enc_indices(t, r.w, row::p(r), p1, list);
+    walk::enc_indices(t, r.w, r.p, r.p1, list);
     Number::Value(n)
 }
 
@@ -85,7 +84,7 @@ pub fn generate_hdpc_rows(r: Row, tables: &[u32], out: &mut [u8]) -> refusal::An
         return refusal::Answer::Refused(Refusal::BadTables);
     }
     let h = r.h as usize;
-    let l = row::l(r) as usize;
+    let l = r.l as usize;
     if out.len() < h * l {
         return refusal::Answer::Refused(Refusal::WrongLength);
     }

@@ -1,6 +1,6 @@
--- A row is its five numbers; bounds under another name; what was written to the front of a store is a list.
+-- Bounds under another name; what was written to the front of a store is a list.
 -- Assumes nothing.
-use mathlib.Core.Path.{_≡_, sym, ap, ap₂, _∙_, subst}
+use mathlib.Core.Path.{_≡_, sym, ap, _∙_, subst}
 use mathlib.Core.List.{List}
 use Prim.Native.Nat.{ℕ, _≤_}
 use native.Mathlib.Nat.{zero-add}
@@ -8,16 +8,8 @@ use native.Mathlib.Omega.{arith}
 use lib.ListN.{length, getD, take}
 use lib.Seq.{getD-take, ext-getD, length-take-le}
 use Rattle.field.specs.Runs.{Written}
-use Rattle.headers.specs.declared.row.Row.{Row}
 use Rattle.linear.specs.Bytes.{tabulate}
 use Rattle.linear.proofs.Bytes.{length-tabulate, getD-tabulate}
-
-abbrev row : ℕ → ℕ → ℕ → ℕ → ℕ → Row
-row k j s h w = record { kp = k; j = j; s = s; h = h; w = w }
-
-pub row-is : {q r : Row} → q .kp ≡ r .kp → q .j ≡ r .j → q .s ≡ r .s → q .h ≡ r .h → q .w ≡ r .w → q ≡ r
-row-is {q} {r} k j s h w =
-    ap₂ (λ (x y : ℕ). row x y (q .s) (q .h) (q .w)) k j ∙ ap₂ (λ (x y : ℕ). row (r .kp) (r .j) x y (q .w)) s h ∙ ap (row (r .kp) (r .j) (r .s) (r .h)) w
 
 pub reach : {x m n : ℕ} → x ≤ m → m ≡ n → x ≤ n
 reach {x} h e = subst (λ (k : ℕ). x ≤ k) e h

@@ -10,14 +10,17 @@ use native.Mathlib.Omega.{arith}
 use borrow.Author.Tests.{lt-ltb, le-ltb, ltb-false, eqb-true, eqb-false, not-false}
 use lib.Dec.{eqb, ltb}
 use lib.ListN.{length}
-use Rattle.field.specs.Answer.{Outcome, given, refused, before}
+use Rattle.field.specs.Answer.{Outcome, given, refused, before, numberOf}
+use Rattle.field.specs.declared.refusal.Refusal.{Refusal}
 use Rattle.field.proofs.Refusals.{passed, passed-before}
 use Rattle.headers.specs.Headers.{infoChecked, idAt}
 use Rattle.headers.specs.Quotient.{ceil}
-use Rattle.headers.specs.Row.{Obeys, obeys, lOf}
+use Rattle.headers.specs.Row.{Obeys, obeys, checked, rowOutcome, lOf}
 use Rattle.headers.specs.declared.row.Row.{Row}
+use Rattle.headers.specs.declared.row.Checked.{Checked}
+use Rattle.headers.specs.declared.row.Checked.the-variants as Checkeds
 use Rattle.headers.specs.declared.transmission.ObjectTransmissionInformation.{ObjectTransmissionInformation}
-use Rattle.headers.proofs.Accepted.{obeys-tells}
+use Rattle.headers.proofs.Accepted.{obeys-tells, broken, accepted, rejected}
 use Rattle.headers.proofs.Tests.{Tells, tells-eq, tells-both, tells-as, is-true, is-false}
 use Rattle.solver.specs.System.{fixed}
 use Rattle.delivery.specs.Layout.{OneBlock, infoOf, rowIn, tOf, kOf, countOf, packet, packetAt}
@@ -118,6 +121,17 @@ sound d e =
       packets = length-sound (length d) (tOf d) (fixed (rowIn d) (kOf d)) (p4 .1);
     }
 
+-- ---- the row of a delivery
+
+module _ (d : List ℕ) (x : Checked) (e : rowOutcome x ≡ checked (rowIn d)) where
+  pub row-read : (r : Row) → x ≡ Checkeds.Value r → (Obeys r) × (r ≡ rowIn d)
+  row-read r q =
+      let a = accepted (rowIn d) r (sym (ap rowOutcome q) ∙ e) in
+      (subst Obeys (sym (a .1)) (a .0), a .1)
+
+  pub row-broken : (why : Refusal) → x ≡ Checkeds.Refused why → Obeys (rowIn d) → ⊥
+  row-broken why q = rejected (rowIn d) (numberOf why) (sym (ap rowOutcome q) ∙ e) .1
+
 -- ---- the ways out of the whole screen
 
 module _ (d : List ℕ) where
@@ -139,6 +153,9 @@ module _ (d : List ℕ) where
         (u ∙ ap (λ (n : ℕ). restScreen d n (o .«symbol_size»)) f
         ∙ ap (λ (p : ObjectTransmissionInformation). restScreen d (ceil (p .«transfer_length») (p .«symbol_size»)) (p .«symbol_size»)) e
         ∙ sym (went-past x (q ∙ ap infoScreen e) (restScreen d (kOf d) (tOf d)) s))
+
+  pub row-refused : (k t : ℕ) → (Obeys (rowIn d) → ⊥) → refused 4 ≡ restScreen d k t
+  row-refused k t n = simp (broken n)
 
   -- past the row
   module _ (r : Row) (e : r ≡ rowIn d) (k t : ℕ) (x : Screened) (q : screened x ≡ rowScreen r k t) where

@@ -7,6 +7,7 @@ use lib.ListN.{length, getD, drop}
 use Rattle.headers.specs.Bytes.{number}
 use Rattle.headers.specs.Headers.{idAt, infoAt}
 use Rattle.headers.specs.Quotient.{ceil}
+use Rattle.headers.specs.Row.{rowOf}
 use Rattle.headers.specs.declared.row.Row.{Row}
 use Rattle.headers.specs.declared.transmission.ObjectTransmissionInformation.{ObjectTransmissionInformation}
 use Rattle.linear.specs.Bytes.{tabulate}
@@ -25,9 +26,9 @@ tOf d = infoOf d .«symbol_size»
 abbrev pub kOf : List ℕ → ℕ
 kOf d = ceil (fOf d) (tOf d)
 
--- K', J, S, H, W: four bytes each
+-- K', J, S, H, W: four bytes each; the record of them
 unfoldable pub rowIn : List ℕ → Row
-rowIn d = record { kp = number d 12 4; j = number d 16 4; s = number d 20 4; h = number d 24 4; w = number d 28 4 }
+rowIn d = rowOf (number d 12 4) (number d 16 4) (number d 20 4) (number d 24 4) (number d 28 4)
 
 -- the random tables: 1,024 numbers of four bytes
 abbrev pub entryAt : List ℕ → ℕ → ℕ

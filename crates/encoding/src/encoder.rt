@@ -41,7 +41,7 @@ fn check(
     if t == 0 {
         return refusal::Answer::Refused(Refusal::BadSize);
     }
-    if have < row::l(r) as usize * t as usize {
+    if have < r.l as usize * t as usize {
         return refusal::Answer::Refused(Refusal::WrongLength);
     }
     if room < t as usize {
@@ -67,12 +67,11 @@ pub fn encode(
         return may;
     };
     let x = beneath::isi_of(r.kp, k, Esi(esi));
-    let p1 = row::p1(r);
-    let z = tuple::intermediate_tuple(tables, x, r.w, r.j, p1);
+    let z = tuple::intermediate_tuple(tables, x, r.w, r.j, r.p1);
     // The generator gives no such walk.
     if z.d + z.d1 > 32 {
         return refusal::Answer::Refused(Refusal::WrongLength);
     }
-    enc::enc(out, t as usize, intermediates, z, r.w, row::p(r), p1);
+    enc::enc(out, t as usize, intermediates, z, r.w, r.p, r.p1);
     refusal::Answer::Done
 }

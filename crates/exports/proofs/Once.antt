@@ -22,6 +22,7 @@ use Rattle.builders.proofs.Settled.{builds-only}
 use Rattle.encoding.specs.Encoded.{Encodes}
 use Rattle.encoding.proofs.Settled.{encodes-only}
 use Rattle.exports.specs.Call.{Reports, code}
+use Rattle.headers.specs.declared.row.Row.{Row}
 use Rattle.exports.specs.Numbers.{id, info, row, slab, tuple}
 use Rattle.exports.specs.Stores.{RunAdded, RunFused, RunScaled}
 
@@ -99,18 +100,22 @@ packet-write-once sbn esi bs xs = reports-once done (λ a b ys zs u w. stores-on
 
 -- ---- rows of the system, and the encoding of a symbol
 
-module _ (k j s h w : ℕ) where
-  pub enc-indices-once : (d a b d1 a1 b1 : ℕ) (xs : List ℕ) → Settled (Reports numberOutcome (λ n ys. Walked (row k j s h w) (tuple d a b d1 a1 b1) xs ys n))
+module _ (k j s h w l p b p1 : ℕ) where
+  -- any nine numbers
+  abbrev r : Row
+  r = row k j s h w l p b p1
+
+  pub enc-indices-once : (d a b d1 a1 b1 : ℕ) (xs : List ℕ) → Settled (Reports numberOutcome (λ n ys. Walked r (tuple d a b d1 a1 b1) xs ys n))
   enc-indices-once d a b d1 a1 b1 xs = reports-once numberOutcome (λ p q ys zs u v. walked-only u v)
 
-  pub hdpc-rows-once : (v xs : List ℕ) → Settled (Reports done (λ a ys. HdpcRows v (row k j s h w) xs ys a))
+  pub hdpc-rows-once : (v xs : List ℕ) → Settled (Reports done (λ a ys. HdpcRows v r xs ys a))
   hdpc-rows-once v xs = reports-once done (λ a b ys zs u v. rows-only u v)
 
-  pub constraint-matrix-once : (v isis xs : List ℕ) → Settled (Reports matrixOutcome (λ m ys. Builds v isis (row k j s h w) h k xs ys m))
+  pub constraint-matrix-once : (v isis xs : List ℕ) → Settled (Reports matrixOutcome (λ m ys. Builds v isis r h k xs ys m))
   constraint-matrix-once v isis xs = reports-once matrixOutcome (λ a b ys zs u v. builds-only u v)
 
-  pub constraint-matrix-no-hdpc-once : (v isis xs : List ℕ) → Settled (Reports matrixOutcome (λ m ys. Builds v isis (row k j s h w) 0 (k + h) xs ys m))
+  pub constraint-matrix-no-hdpc-once : (v isis xs : List ℕ) → Settled (Reports matrixOutcome (λ m ys. Builds v isis r 0 (k + h) xs ys m))
   constraint-matrix-no-hdpc-once v isis xs = reports-once matrixOutcome (λ a b ys zs u v. builds-only u v)
 
-  pub encode-once : (v : List ℕ) (count t esi : ℕ) (C xs : List ℕ) → Settled (Reports done (λ a ys. Encodes v (row k j s h w) count t esi C xs ys a))
+  pub encode-once : (v : List ℕ) (count t esi : ℕ) (C xs : List ℕ) → Settled (Reports done (λ a ys. Encodes v r count t esi C xs ys a))
   encode-once v count t esi C xs = reports-once done (λ a b ys zs u v. encodes-only u v)

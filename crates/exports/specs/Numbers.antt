@@ -5,7 +5,6 @@ use Prim.Native.Nat.{ℕ}
 use Rattle.headers.specs.declared.payload_id.PayloadId.{PayloadId}
 use Rattle.headers.specs.declared.transmission.ObjectTransmissionInformation.{ObjectTransmissionInformation}
 use Rattle.headers.specs.declared.row.Row.{Row}
-use Rattle.headers.specs.declared.row.Sizes.{Sizes}
 use Rattle.headers.specs.declared.tuple.Tuple.{Tuple}
 use Rattle.slab.specs.declared.symbol_slab.SymbolSlab.{SymbolSlab}
 
@@ -26,11 +25,12 @@ infoNumbers o =
 abbrev pub packetNumbers : PayloadId × ℕ × ℕ → List ℕ
 packetNumbers p = p .0 .«source_block_number» ∷ p .0 .«encoding_symbol_id» ∷ p .1 ∷ p .2 ∷ []
 
-abbrev pub row : ℕ → ℕ → ℕ → ℕ → ℕ → Row
-row k j s h w = record { kp = k; j = j; s = s; h = h; w = w }
+-- any nine numbers: whether they are a record of the check is for each call to say
+abbrev pub row : ℕ → ℕ → ℕ → ℕ → ℕ → ℕ → ℕ → ℕ → ℕ → Row
+row k j s h w l p b p1 = record { kp = k; j = j; s = s; h = h; w = w; l = l; p = p; b = b; p1 = p1 }
 
-abbrev pub sizeNumbers : Sizes → List ℕ
-sizeNumbers z = z .l ∷ z .p ∷ z .b ∷ z .p1 ∷ []
+abbrev pub rowNumbers : Row → List ℕ
+rowNumbers r = r .kp ∷ r .j ∷ r .s ∷ r .h ∷ r .w ∷ r .l ∷ r .p ∷ r .b ∷ r .p1 ∷ []
 
 abbrev pub tupleNumbers : Tuple → List ℕ
 tupleNumbers t = t .d ∷ t .a ∷ t .b ∷ t .d1 ∷ t .a1 ∷ t .b1 ∷ []

@@ -29,6 +29,10 @@ pub extern "C" fn spoonripple_encode(
     s: u32,
     h: u32,
     w: u32,
+    l: u32,
+    p: u32,
+    b: u32,
+    p1: u32,
     tables: &[u32],
     count: u32,
     t: u16,
@@ -36,10 +40,20 @@ pub extern "C" fn spoonripple_encode(
     intermediates: &[u8],
     out: &mut [u8],
 ) -> u32
-    ensures { λ r. ⌜ Reports done (λ a ys. Encodes (now (tables .entry)) (row k j s h w) count t esi (now (intermediates .entry)) (now (out .entry)) ys a)
+    ensures { λ r. ⌜ Reports done (λ a ys. Encodes (now (tables .entry)) (row k j s h w l p b p1) count t esi (now (intermediates .entry)) (now (out .entry)) ys a)
         r (now (out .exit)) ⌝ }
 {
-    let r = Row { kp: k, j, s, h, w };
+    let r = Row {
+        kp: k,
+        j,
+        s,
+        h,
+        w,
+        l,
+        p,
+        b,
+        p1,
+    };
     told(encoder::encode(r, tables, count, t, esi, intermediates, out))
 }
 
@@ -89,6 +103,10 @@ pub extern "C" fn spoonripple_solve(
     s: u32,
     h: u32,
     w: u32,
+    l: u32,
+    p: u32,
+    b: u32,
+    p1: u32,
     tables: &[u32],
     count: u32,
     t: u16,
@@ -99,11 +117,21 @@ pub extern "C" fn spoonripple_solve(
     out: &mut [u8],
     shortfall: &mut [u64],
 ) -> u32
-    ensures { λ n. ⌜ Solving (row k j s h w) (now (tables .entry)) count t (now (esis .entry)) (now (symbols .entry))
+    ensures { λ n. ⌜ Solving (row k j s h w l p b p1) (now (tables .entry)) count t (now (esis .entry)) (now (symbols .entry))
         (now (rows .entry)) (now (values .entry)) (now (out .entry)) (now (shortfall .entry))
         (now (rows .exit)) (now (values .exit)) (now (out .exit)) (now (shortfall .exit)) n ⌝ }
 {
-    let r = Row { kp: k, j, s, h, w };
+    let r = Row {
+        kp: k,
+        j,
+        s,
+        h,
+        w,
+        l,
+        p,
+        b,
+        p1,
+    };
     if shortfall.len() < 1 {
         return unroomed(r, tables, count, t, esis, symbols, rows, values, out);
     }

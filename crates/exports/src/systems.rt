@@ -1,4 +1,4 @@
-// The rows of the linear system (RFC 6330, sections 5.3.3.3 and 5.3.5.3). A row of parameters is its five numbers K', J, S, H, W.
+// The rows of the linear system (RFC 6330, sections 5.3.3.3 and 5.3.5.3). A row of parameters is its record: K', J, S, H, W, L, P, B, P1.
 ghost use Prim.Native.Nat.{_+_};
 ghost use Rattle.field.specs.Answer.{done};
 ghost use Rattle.headers.specs.Number.{numberOutcome};
@@ -23,21 +23,35 @@ pub extern "C" fn spoonripple_enc_indices(
     s: u32,
     h: u32,
     w: u32,
+    l: u32,
+    p: u32,
+    b: u32,
+    p1: u32,
     d: u32,
     a: u32,
-    b: u32,
+    tuple_b: u32,
     d1: u32,
     a1: u32,
     b1: u32,
     list: &mut [u32],
 ) -> u32
-    ensures { λ r. ⌜ Reports numberOutcome (λ n ys. Walked (row k j s h w) (tuple d a b d1 a1 b1) (now (list .entry)) ys n) r (now (list .exit)) ⌝ }
+    ensures { λ r. ⌜ Reports numberOutcome (λ n ys. Walked (row k j s h w l p b p1) (tuple d a «tuple_b» d1 a1 b1) (now (list .entry)) ys n) r (now (list .exit)) ⌝ }
 {
-    let r = Row { kp: k, j, s, h, w };
+    let r = Row {
+        kp: k,
+        j,
+        s,
+        h,
+        w,
+        l,
+        p,
+        b,
+        p1,
+    };
     let t = Tuple {
         d,
         a,
-        b,
+        b: tuple_b,
         d1,
         a1,
         b1,
@@ -53,12 +67,30 @@ pub extern "C" fn spoonripple_hdpc_rows(
     s: u32,
     h: u32,
     w: u32,
+    l: u32,
+    p: u32,
+    b: u32,
+    p1: u32,
     tables: &[u32],
     store: &mut [u8],
 ) -> u32
-    ensures { λ r. ⌜ Reports done (λ a ys. HdpcRows (now (tables .entry)) (row k j s h w) (now (store .entry)) ys a) r (now (store .exit)) ⌝ }
+    ensures { λ r. ⌜ Reports done (λ a ys. HdpcRows (now (tables .entry)) (row k j s h w l p b p1) (now (store .entry)) ys a) r (now (store .exit)) ⌝ }
 {
-    told(rows::generate_hdpc_rows(Row { kp: k, j, s, h, w }, tables, store))
+    told(rows::generate_hdpc_rows(
+        Row {
+            kp: k,
+            j,
+            s,
+            h,
+            w,
+            l,
+            p,
+            b,
+            p1,
+        },
+        tables,
+        store,
+    ))
 }
 
 // Rows of bits: LDPC, H of 0, one for each ISI.
@@ -69,14 +101,28 @@ pub extern "C" fn spoonripple_constraint_matrix(
     s: u32,
     h: u32,
     w: u32,
+    l: u32,
+    p: u32,
+    b: u32,
+    p1: u32,
     tables: &[u32],
     isis: &[u32],
     words: &mut [u64],
 ) -> u32
-    ensures { λ r. ⌜ Reports matrixOutcome (λ m ys. Builds (now (tables .entry)) (now (isis .entry)) (row k j s h w) h k (now (words .entry)) ys m)
+    ensures { λ r. ⌜ Reports matrixOutcome (λ m ys. Builds (now (tables .entry)) (now (isis .entry)) (row k j s h w l p b p1) h k (now (words .entry)) ys m)
         r (now (words .exit)) ⌝ }
 {
-    let r = Row { kp: k, j, s, h, w };
+    let r = Row {
+        kp: k,
+        j,
+        s,
+        h,
+        w,
+        l,
+        p,
+        b,
+        p1,
+    };
     told_matrix(constraint_matrix::generate_constraint_matrix(r, tables, isis, words))
 }
 
@@ -88,13 +134,27 @@ pub extern "C" fn spoonripple_constraint_matrix_no_hdpc(
     s: u32,
     h: u32,
     w: u32,
+    l: u32,
+    p: u32,
+    b: u32,
+    p1: u32,
     tables: &[u32],
     isis: &[u32],
     words: &mut [u64],
 ) -> u32
-    ensures { λ r. ⌜ Reports matrixOutcome (λ m ys. Builds (now (tables .entry)) (now (isis .entry)) (row k j s h w) 0 (k + h) (now (words .entry)) ys m)
+    ensures { λ r. ⌜ Reports matrixOutcome (λ m ys. Builds (now (tables .entry)) (now (isis .entry)) (row k j s h w l p b p1) 0 (k + h) (now (words .entry)) ys m)
         r (now (words .exit)) ⌝ }
 {
-    let r = Row { kp: k, j, s, h, w };
+    let r = Row {
+        kp: k,
+        j,
+        s,
+        h,
+        w,
+        l,
+        p,
+        b,
+        p1,
+    };
     told_matrix(constraint_matrix::generate_constraint_matrix_no_hdpc(r, tables, isis, words))
 }

@@ -1,11 +1,11 @@
-// Rand, degrees, parameter rows, the shift and tuples (RFC 6330, sections 5.3.5, 5.5 and 5.6). A row is its five numbers K', J, S, H, W.
+// Rand, degrees, parameter rows, the shift and tuples (RFC 6330, sections 5.3.5, 5.5 and 5.6). A row is its record: K', J, S, H, W, L, P, B, P1; the check makes it.
 ghost use Rattle.headers.specs.Degree.{degAnswer};
 ghost use Rattle.headers.specs.Rand.{randAnswer};
 ghost use Rattle.headers.specs.Row.{rowChecked};
 ghost use Rattle.headers.specs.Shift.{isiAnswer};
 ghost use Rattle.headers.specs.Tuples.{tupleAnswer};
 ghost use Rattle.exports.specs.Call.{Called, listed, single, thenRoomed};
-ghost use Rattle.exports.specs.Numbers.{row, sizeNumbers, tupleNumbers};
+ghost use Rattle.exports.specs.Numbers.{row, rowNumbers, tupleNumbers};
 use crate::values::hand;
 use crate::values::hand_number;
 use crate::values::hand_one;
@@ -35,7 +35,7 @@ pub extern "C" fn spoonripple_deg(v: u32, w: u32, out: &mut [u64]) -> u32
     hand_number(deg::deg(v, w), out)
 }
 
-// Values: L, P, B, P1.
+// Values, of the record that the check makes: K', J, S, H, W, L, P, B, P1.
 #[no_mangle]
 pub extern "C" fn spoonripple_row_check(
     k: u32,
@@ -45,11 +45,21 @@ pub extern "C" fn spoonripple_row_check(
     w: u32,
     out: &mut [u64],
 ) -> u32
-    ensures { λ r. ⌜ Called (thenRoomed (now (out .entry)) (listed sizeNumbers (rowChecked (row k j s h w)))) (now (out .entry)) (now (out .exit)) r ⌝ }
+    ensures { λ r. ⌜ Called (thenRoomed (now (out .entry)) (listed rowNumbers (rowChecked k j s h w))) (now (out .entry)) (now (out .exit)) r ⌝ }
 {
-    match row::check(Row { kp: k, j, s, h, w }) {
-        Checked::Value(z) => {
-            let values = [z.l as u64, z.p as u64, z.b as u64, z.p1 as u64];
+    match row::check(k, j, s, h, w) {
+        Checked::Value(r) => {
+            let values = [
+                r.kp as u64,
+                r.j as u64,
+                r.s as u64,
+                r.h as u64,
+                r.w as u64,
+                r.l as u64,
+                r.p as u64,
+                r.b as u64,
+                r.p1 as u64,
+            ];
             hand(&values, out)
         }
         Checked::Refused(why) => number(why),
@@ -64,13 +74,31 @@ pub extern "C" fn spoonripple_isi(
     s: u32,
     h: u32,
     w: u32,
+    l: u32,
+    p: u32,
+    b: u32,
+    p1: u32,
     count: u32,
     esi: u32,
     out: &mut [u64],
 ) -> u32
-    ensures { λ r. ⌜ Called (thenRoomed (now (out .entry)) (listed single (isiAnswer (row k j s h w) count esi))) (now (out .entry)) (now (out .exit)) r ⌝ }
+    ensures { λ r. ⌜ Called (thenRoomed (now (out .entry)) (listed single (isiAnswer (row k j s h w l p b p1) count esi))) (now (out .entry)) (now (out .exit)) r ⌝ }
 {
-    match ids::isi_of(Row { kp: k, j, s, h, w }, count, Esi(esi)) {
+    match ids::isi_of(
+        Row {
+            kp: k,
+            j,
+            s,
+            h,
+            w,
+            l,
+            p,
+            b,
+            p1,
+        },
+        count,
+        Esi(esi),
+    ) {
         Shifted::Value(x) => hand_one(ids::number(x) as u64, out),
         Shifted::Refused(why) => number(why),
     }
@@ -84,15 +112,33 @@ pub extern "C" fn spoonripple_tuple(
     s: u32,
     h: u32,
     w: u32,
+    l: u32,
+    p: u32,
+    b: u32,
+    p1: u32,
     tables: &[u32],
     isi: u32,
     out: &mut [u64],
 ) -> u32
-    ensures { λ r. ⌜ Called (thenRoomed (now (out .entry)) (listed tupleNumbers (tupleAnswer (row k j s h w) (now (tables .entry)) isi)))
+    ensures { λ r. ⌜ Called (thenRoomed (now (out .entry)) (listed tupleNumbers (tupleAnswer (row k j s h w l p b p1) (now (tables .entry)) isi)))
         (now (out .entry)) (now (out .exit)) r ⌝ }
 {
     let x = ids::beneath::row_number(isi);
-    match tuple::intermediate_tuple(Row { kp: k, j, s, h, w }, tables, x) {
+    match tuple::intermediate_tuple(
+        Row {
+            kp: k,
+            j,
+            s,
+            h,
+            w,
+            l,
+            p,
+            b,
+            p1,
+        },
+        tables,
+        x,
+    ) {
         Generated::Value(t) => {
             let values = [
                 t.d as u64,

@@ -1,9 +1,9 @@
 -- The tests of a row decide its rules; what the rules of a row imply; and what the answer of a check tells.
 -- Assumes nothing.
-use mathlib.Core.Path.{_≡_, refl, sym, ap}
+use mathlib.Core.Path.{_≡_, refl, sym, ap, subst}
 use mathlib.Core.Bool.{Bool, true, false, not}
 use mathlib.Core.List.{List}
-use Prim.Native.Nat.{ℕ, _+_, _-_, _%_, _≤_, _<_}
+use Prim.Native.Nat.{ℕ, _+_, _-_, _*_, _%_, _≤_, _<_}
 use native.Mathlib.Decide.{ℕ-discrete}
 use native.Mathlib.Omega.{arith}
 use lib.ListN.{length}
@@ -12,10 +12,9 @@ use Rattle.field.specs.Answer.{given, refused, unless}
 use Rattle.field.proofs.Answers.{given-only, refused-only, given-not-refused}
 use Rattle.field.proofs.Refusals.{passed}
 use Rattle.headers.specs.Prime.{Prime, FirstFrom, clear, prime}
-use Rattle.headers.specs.Row.{Obeys, obeys, between, sixteen, bands, lOf, pOf, bOf, p1Of, sizesOf, rowChecked}
+use Rattle.headers.specs.Row.{Ranges, Obeys, obeys, between, Derived, sixteen, fitting, bands, lOf, pOf, bOf, p1Of, completed, rowOf, checked, rowChecked}
 use Rattle.headers.specs.Tuples.{Ready}
 use Rattle.headers.specs.declared.row.Row.{Row}
-use Rattle.headers.specs.declared.row.Sizes.{Sizes}
 use Rattle.headers.proofs.Tests.{Tells, tells-both, tells-as, tells-le, tells-lt, tells-eq, is-true, is-false, tells-true, is-test}
 use Rattle.headers.proofs.Primes.{trial, clear-tells, prime-tells, first-from, first-high}
 
@@ -26,6 +25,9 @@ small : (r : Row) → Tells (sixteen r) ((r .kp < 65536) × ((r .j < 65536) × (
 small r =
     tells-both (tells-lt (r .kp) 65536) (tells-both (tells-lt (r .j) 65536) (tells-both (tells-lt (r .s) 65536)
     (tells-both (tells-lt (r .h) 65536) (tells-lt (r .w) 65536))))
+
+fits : (r : Row) → Tells (fitting r) ((r .l ≡ lOf r) × ((r .p ≡ pOf r) × ((r .b ≡ bOf r) × (r .p1 ≡ p1Of r))))
+fits r = tells-both (tells-eq (r .l) (lOf r)) (tells-both (tells-eq (r .p) (pOf r)) (tells-both (tells-eq (r .b) (bOf r)) (tells-eq (r .p1) (p1Of r))))
 
 -- the tests decide the rules
 pub obeys-tells : (r : Row) → Tells (obeys r) (Obeys r)
@@ -52,14 +54,41 @@ obeys-tells r =
       p-low = t .1 .1 .1 .1 .1 .1 .0;
       b-high = t .1 .1 .1 .1 .1 .1 .1 .0;
       l-high = t .1 .1 .1 .1 .1 .1 .1 .1 .0;
+      derived =
+          let d = t .1 .1 .1 .1 .1 .1 .1 .1 .1 .0 in
+          record { l-fits = d .0; p-fits = d .1 .0; b-fits = d .1 .1 .0; p1-fits = d .1 .1 .1 };
     })
-    (λ o. let n = o .ranges in (
+    (λ o. let n = o .ranges in let d = o .derived in (
       (n .kp-16, (n .j-16, (n .s-16, (n .h-16, n .w-16)))),
-      ((n .kp-low, n .kp-high), ((n .s-odd, n .s-low), ((n .h-low, n .h-high), (o .w-prime, (o .b-low, (o .p-low, (o .b-high, (o .l-high, refl)))))))),
+      (
+        (n .kp-low, n .kp-high),
+        (
+          (n .s-odd, n .s-low),
+          (
+            (n .h-low, n .h-high),
+            (
+              o .w-prime,
+              (
+                o .b-low,
+                (
+                  o .p-low,
+                  (
+                    o .b-high,
+                    (
+                      o .l-high,
+                      ((d .l-fits, (d .p-fits, (d .b-fits, d .p1-fits))), refl),
+                    ),
+                  ),
+                ),
+              ),
+            ),
+          ),
+        ),
+      ),
     ))
     (tells-both (small r) (tells-both (within 1 (r .kp) 56403) (tells-both (tells-both (tells-eq (r .s % 2) 1) (tells-le 3 (r .s)))
     (tells-both (within 2 (r .h) 255) (tells-both (prime-tells (r .w)) (tells-both (tells-le 1 (bOf r)) (tells-both (tells-le 3 (pOf r))
-    (tells-both (tells-lt (bands r) (r .s)) (tells-both (tells-le (lOf r) 65535) tells-true)))))))))
+    (tells-both (tells-lt (bands r) (r .s)) (tells-both (tells-le (lOf r) 65535) (tells-both (fits r) tells-true))))))))))
 
 pub obeyed : {r : Row} → Obeys r → obeys r ≡ true
 obeyed {r} o = is-true (obeys-tells r) o
@@ -126,16 +155,83 @@ module _ {r : Row} (o : Obeys r) where
   pub ready : {v : List ℕ} → length v ≡ 1024 → Ready v (r .j) (r .w) (p1Of r)
   ready e = record { tables = e; j-16 = o .ranges .j-16; w-low = omega (arith, w-low); p1-low = omega (arith, p1-low) }
 
--- what the answer of a check tells
-module _ (r : Row) where
-  pub accepted : (z : Sizes) → given z ≡ rowChecked r → (Obeys r) × (z ≡ sizesOf r)
-  accepted z e =
-      let p = passed (not (obeys r)) 4 (given (sizesOf r)) z (sym e) in
-      (obeys-tells r .passes (not-false (obeys r) (p .0)), given-only z (sizesOf r) (sym (p .1)))
+  -- the same of the numbers that the record carries
+  pub own-ready : {v : List ℕ} → length v ≡ 1024 → Ready v (r .j) (r .w) (r .p1)
+  own-ready e = rw (o .derived .p1-fits) (ready e)
 
-  pub rejected : (n : ℕ) → refused n ≡ rowChecked r → (n ≡ 4) × (Obeys r → ⊥)
+  pub own-l : r .l ≡ r .w + r .p
+  own-l = omega (arith, o .derived .l-fits, o .derived .p-fits, l-is)
+
+  pub own-room : (n m : ℕ) → n * lOf r ≤ m → n * r .l ≤ m
+  own-room n m h = rw (o .derived .l-fits) h
+
+-- a record that carries the numbers that follow from its five is complete
+pub complete : {r : Row} → Derived r → r ≡ completed r
+complete {r} d = rw (d .l-fits, d .p-fits, d .b-fits, d .p1-fits)
+
+-- the nine rules of the five numbers ask nothing of the other four
+pub of-five : {r : Row} → Obeys r → Obeys (completed r)
+of-five o =
+    record {
+      ranges = o .ranges;
+      w-prime = o .w-prime;
+      b-low = o .b-low;
+      p-low = o .p-low;
+      b-high = o .b-high;
+      l-high = o .l-high;
+      derived = record { l-fits = refl; p-fits = refl; b-fits = refl; p1-fits = refl };
+    }
+
+pub with-derived : {r : Row} → Obeys (completed r) → Derived r → Obeys r
+with-derived o d =
+    record {
+      ranges = o .ranges;
+      w-prime = o .w-prime;
+      b-low = o .b-low;
+      p-low = o .p-low;
+      b-high = o .b-high;
+      l-high = o .l-high;
+      derived = d;
+    }
+
+-- the nine rules, of five numbers, are all that the check asks
+pub five : {kp j s h w : ℕ} → let r = rowOf kp j s h w in Ranges kp j s h w → Prime w → 1 ≤ bOf r → 3 ≤ pOf r → bands r < s → lOf r ≤ 65535 → Obeys r
+five n q b p d l =
+    record {
+      ranges = n;
+      w-prime = q;
+      b-low = b;
+      p-low = p;
+      b-high = d;
+      l-high = l;
+      derived = record { l-fits = refl; p-fits = refl; b-fits = refl; p1-fits = refl };
+    }
+
+-- what the check answers of a record that it made, and what its answer tells
+module _ (r : Row) where
+  pub refused-row : (Obeys r → ⊥) → refused 4 ≡ checked r
+  refused-row n = simp (broken n)
+
+  pub made-row : {x : Row} → x ≡ r → Obeys r → given x ≡ checked r
+  made-row e o = simp (obeyed o) (ap given e)
+
+  pub accepted : (x : Row) → given x ≡ checked r → (Obeys r) × (x ≡ r)
+  accepted x e =
+      let p = passed (not (obeys r)) 4 (given r) x (sym e) in
+      (obeys-tells r .passes (not-false (obeys r) (p .0)), given-only x r (sym (p .1)))
+
+  pub rejected : (n : ℕ) → refused n ≡ checked r → (n ≡ 4) × (Obeys r → ⊥)
   rejected n = go (obeys r) (obeys-tells r)
     where
-      go : (b : Bool) → Tells b (Obeys r) → refused n ≡ unless (not b) 4 (given (sizesOf r)) → (n ≡ 4) × (Obeys r → ⊥)
-      go true t e = absurd (given-not-refused (sizesOf r) n (sym e))
+      go : (b : Bool) → Tells b (Obeys r) → refused n ≡ unless (not b) 4 (given r) → (n ≡ 4) × (Obeys r → ⊥)
+      go true t e = absurd (given-not-refused r n (sym e))
       go false t e = (refused-only n 4 e, t .breaks refl)
+
+  -- a record is accepted exactly when it is what the check makes of its five numbers
+  pub obeys-made : Obeys r → rowChecked (r .kp) (r .j) (r .s) (r .h) (r .w) ≡ given r
+  obeys-made o = simp (obeyed (of-five o)) (ap given (sym (complete (o .derived))))
+
+pub made-obeys : (r : Row) → rowChecked (r .kp) (r .j) (r .s) (r .h) (r .w) ≡ given r → Obeys r
+made-obeys r e =
+    let a = accepted (completed r) r (sym e) in
+    subst Obeys (sym (a .1)) (a .0)

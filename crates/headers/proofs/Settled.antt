@@ -24,12 +24,12 @@ pub numbers-only : (p q : Number) → number.numberOutcome p ≡ number.numberOu
 numbers-only = answer-only number.numberOutcome N.Value N.Refused numbers-back
 
 -- check
-checked-back : (a : Checked) → answerOf C.Value C.Refused (row.sizesOutcome a) ≡ a
+checked-back : (a : Checked) → answerOf C.Value C.Refused (row.rowOutcome a) ≡ a
 checked-back (C.Value x) = refl
 checked-back (C.Refused w) = ap C.Refused (named-number w)
 
-pub checked-only : (p q : Checked) → row.sizesOutcome p ≡ row.sizesOutcome q → p ≡ q
-checked-only = answer-only row.sizesOutcome C.Value C.Refused checked-back
+pub checked-only : (p q : Checked) → row.rowOutcome p ≡ row.rowOutcome q → p ≡ q
+checked-only = answer-only row.rowOutcome C.Value C.Refused checked-back
 
 -- isi_of
 shifted-back : (a : Shifted) → answerOf (λ n. S.Value (record { 0 = n })) S.Refused (shift.isiOutcome a) ≡ a

@@ -1,4 +1,5 @@
--- The parameter row (RFC 6330 section 5.6), its rules (document 01, 'Parameter row'), and the numbers that follow from it (5.3.3.3).
+-- The parameter row (RFC 6330 section 5.6), the numbers that follow from it (5.3.3.3), and its rules (document 01, 'Parameter row'; document 02, E2).
+-- Of a record K', J, S, H and W are given; L, P, B and P1 are said here of these five, and stand in it too.
 -- Assumes nothing.
 use mathlib.Core.Path.{_≡_}
 use mathlib.Core.Bool.{Bool, true, not}
@@ -10,7 +11,6 @@ use Rattle.field.specs.Answer.{Outcome, given, refused, numberOf, unless}
 use Rattle.headers.specs.Prime.{Prime, prime, firstPrime}
 use Rattle.headers.specs.Quotient.{ceil}
 use Rattle.headers.specs.declared.row.Row.{Row}
-use Rattle.headers.specs.declared.row.Sizes.{Sizes}
 use Rattle.headers.specs.declared.row.Checked.{Checked}
 use Rattle.headers.specs.declared.row.Checked.the-variants.{Value, Refused}
 
@@ -48,7 +48,14 @@ pub record Ranges (kp j s h w : ℕ) : Type 0 where
   pub h-low : 2 ≤ h
   pub h-high : h ≤ 255
 
--- the rules as a fact
+-- the four numbers that a record carries are those that follow from its five
+pub record Derived (r : Row) : Type 0 where
+  pub l-fits : r .l ≡ lOf r
+  pub p-fits : r .p ≡ pOf r
+  pub b-fits : r .b ≡ bOf r
+  pub p1-fits : r .p1 ≡ p1Of r
+
+-- the rules as a fact: nine of the five numbers, and the tenth of the other four
 pub record Obeys (r : Row) : Type 0 where
   pub ranges : Ranges (r .kp) (r .j) (r .s) (r .h) (r .w)
   pub w-prime : Prime (r .w)
@@ -56,6 +63,7 @@ pub record Obeys (r : Row) : Type 0 where
   pub p-low : 3 ≤ pOf r
   pub b-high : bands r < r .s
   pub l-high : lOf r ≤ 65535
+  pub derived : Derived r
 
 -- low <= n <= high, as a test
 abbrev pub between : ℕ → ℕ → ℕ → Bool
@@ -64,11 +72,14 @@ between low n high = both (leb low n) (leb n high)
 abbrev pub sixteen : Row → Bool
 sixteen r = both (ltb (r .kp) 65536) (both (ltb (r .j) 65536) (both (ltb (r .s) 65536) (both (ltb (r .h) 65536) (ltb (r .w) 65536))))
 
+abbrev pub fitting : Row → Bool
+fitting r = both (eqb (r .l) (lOf r)) (both (eqb (r .p) (pOf r)) (both (eqb (r .b) (bOf r)) (eqb (r .p1) (p1Of r))))
+
 -- the same rules as tests, in document 01's order; the theorem `obeys-tells` says that they decide the fact
 abbrev pub rules : Row → List Bool
 rules r =
     sixteen r ∷ between 1 (r .kp) 56403 ∷ both (eqb (r .s % 2) 1) (leb 3 (r .s)) ∷ between 2 (r .h) 255 ∷ prime (r .w)
-    ∷ leb 1 (bOf r) ∷ leb 3 (pOf r) ∷ ltb (bands r) (r .s) ∷ leb (lOf r) 65535 ∷ []
+    ∷ leb 1 (bOf r) ∷ leb 3 (pOf r) ∷ ltb (bands r) (r .s) ∷ leb (lOf r) 65535 ∷ fitting r ∷ []
 
 abbrev pub all : List Bool → Bool
 all [] = true
@@ -77,13 +88,22 @@ all (b ∷ bs) = both b (all bs)
 unfoldable pub obeys : Row → Bool
 obeys r = all (rules r)
 
-abbrev pub sizesOf : Row → Sizes
-sizesOf r = record { l = lOf r; p = pOf r; b = bOf r; p1 = p1Of r }
+-- the record with the four numbers that follow from its five, whatever stood in their places
+abbrev pub completed : Row → Row
+completed r = record { kp = r .kp; j = r .j; s = r .s; h = r .h; w = r .w; l = lOf r; p = pOf r; b = bOf r; p1 = p1Of r }
 
--- what a check answers
-abbrev pub rowChecked : Row → Outcome Sizes
-rowChecked r = unless (not (obeys r)) 4 (given (sizesOf r))
+-- the record of K', J, S, H and W
+abbrev pub rowOf : ℕ → ℕ → ℕ → ℕ → ℕ → Row
+rowOf kp j s h w = completed (record { kp = kp; j = j; s = s; h = h; w = w; l = 0; p = 0; b = 0; p1 = 0 })
 
-abbrev pub sizesOutcome : Checked → Outcome Sizes
-sizesOutcome (Value z) = given z
-sizesOutcome (Refused why) = refused (numberOf why)
+-- the record, where it keeps the rules
+abbrev pub checked : Row → Outcome Row
+checked r = unless (not (obeys r)) 4 (given r)
+
+-- what the check answers
+abbrev pub rowChecked : ℕ → ℕ → ℕ → ℕ → ℕ → Outcome Row
+rowChecked kp j s h w = checked (rowOf kp j s h w)
+
+abbrev pub rowOutcome : Checked → Outcome Row
+rowOutcome (Value r) = given r
+rowOutcome (Refused why) = refused (numberOf why)

@@ -3,9 +3,8 @@
 ghost use mathlib.Core.Path.{_≡_};
 ghost use Rattle.headers.specs.Tuples.{tupleAnswer, tupleOutcome};
 use crate::beneath;
+use crate::beneath::row;
 use crate::ids::Isi;
-use crate::row;
-use crate::row::Checked;
 use crate::row::Row;
 use field::refusal::Refusal;
 
@@ -26,11 +25,11 @@ pub enum Generated {
 pub fn intermediate_tuple(r: Row, tables: &[u32], x: Isi) -> Generated
     ensures { λ t. ⌜ tupleOutcome t ≡ tupleAnswer r (now (tables .entry)) (x .0) ⌝ }
 {
-    let Checked::Value(z) = row::check(r) else {
+    if !row::obeys(r) {
         return Generated::Refused(Refusal::BadRow);
-    };
+    }
     if tables.len() != 1024 {
         return Generated::Refused(Refusal::BadTables);
     }
-    Generated::Value(beneath::tuple::intermediate_tuple(tables, x, r.w, r.j, z.p1))
+    Generated::Value(beneath::tuple::intermediate_tuple(tables, x, r.w, r.j, r.p1))
 }

@@ -15,7 +15,6 @@ use headers::partition;
 use headers::rng;
 use headers::row;
 use headers::row::Checked;
-use headers::row::Row;
 use headers::transmission;
 use headers::transmission::ObjectTransmissionInformation;
 use headers::tuple;
@@ -98,11 +97,11 @@ fn say_parts(p: partition::Answer) {
 
 fn say_sizes(c: Checked) {
     match c {
-        Checked::Value(z) => {
-            say(z.l);
-            say(z.p);
-            say(z.b);
-            say(z.p1);
+        Checked::Value(r) => {
+            say(r.l);
+            say(r.p);
+            say(r.b);
+            say(r.p1);
         }
         Checked::Refused(why) => refuse(why),
     }
@@ -149,13 +148,24 @@ struct Question {
     n6: u64,
 }
 
-fn row_of(q: Question) -> Row {
-    Row {
-        kp: word(q.n0),
-        j: word(q.n1),
-        s: word(q.n2),
-        h: word(q.n3),
-        w: word(q.n4),
+fn row_of(q: Question) -> Checked {
+    row::check(word(q.n0), word(q.n1), word(q.n2), word(q.n3), word(q.n4))
+}
+
+fn answer_isi(q: Question) {
+    match row_of(q) {
+        Checked::Value(r) => say_isi(ids::isi_of(r, word(q.n5), Esi(word(q.n6)))),
+        Checked::Refused(why) => refuse(why),
+    }
+}
+
+fn answer_tuple(q: Question, tables: &[u32]) {
+    match row_of(q) {
+        Checked::Value(r) => {
+            let x = ids::beneath::row_number(word(q.n5));
+            say_tuple(tuple::intermediate_tuple(r, tables, x));
+        }
+        Checked::Refused(why) => refuse(why),
     }
 }
 
@@ -175,13 +185,9 @@ fn answer(q: Question, tables: &[u32]) {
         b'd' => say_number(deg::deg(word(q.n0), word(q.n1))),
         b'p' => say_parts(partition::partition(word(q.n0), word(q.n1))),
         b'r' => say_number(rng::rand(tables, word(q.n0), (q.n1 % 256) as u8, word(q.n2))),
-        b'w' => say_sizes(row::check(row_of(q))),
-        b'i' => say_isi(ids::isi_of(row_of(q), word(q.n5), Esi(word(q.n6)))),
-        b't' => say_tuple(tuple::intermediate_tuple(
-            row_of(q),
-            tables,
-            ids::beneath::row_number(word(q.n5)),
-        )),
+        b'w' => say_sizes(row_of(q)),
+        b'i' => answer_isi(q),
+        b't' => answer_tuple(q, tables),
         b'c' => say_verdict(transmission::check(information(q))),
         _ => {}
     }

@@ -25,7 +25,7 @@ fn room(r: Row, k: u32, t: u16, n: usize, rows: usize, values: usize, out: usize
     ensures { λ a. ⌜ done a ≡ roomToSolve r k t n rows values out ⌝ }
 {
     let m = sizes::m(r, k, n);
-    let l = row::l(r) as usize;
+    let l = r.l as usize;
     if rows < m * l {
         return Answer::Refused(Refusal::WrongLength);
     }

@@ -1,5 +1,6 @@
 // Ported from constraint_matrix.rs of raptorq 2.0.1 (Apache-2.0) and changed.
 // Ones added to a binary matrix. The crate sets them; where no two meet, as the rules of a row see to, that is the same.
+ghost use mathlib.Core.Path.{_≡_};
 ghost use Prim.Native.Nat.{ℕ, _+_, _-_, _%_, _<_, _≤_};
 ghost use lib.ListN.{length, getD};
 ghost use Rattle.field.specs.Octet.{plus};
@@ -25,12 +26,11 @@ pub fn add_one(ws: &mut [u64], m: DenseBinaryMatrix, i: usize, j: usize)
     words::put(ws, at, j, 1 - v);
 }
 
-// C[k] to three rows, for each of the first B columns.
-fn crossings(ws: &mut [u64], m: DenseBinaryMatrix, s: usize, w: usize, p: usize)
-    requires { ⌜ Lies m (now ws) × Crosses s w p × (s ≤ m .height) × (w ≤ m .width) ⌝ }
+// C[k] to three rows, for each of the first b columns.
+fn crossings(ws: &mut [u64], m: DenseBinaryMatrix, s: usize, w: usize, b: usize, p: usize)
+    requires { ⌜ Lies m (now ws) × Crosses s w p × (b ≡ w - s) × (s ≤ m .height) × (w ≤ m .width) ⌝ }
     ensures { λ _. ⌜ Added (λ r c. sum (w - s) (turn s r c)) (now (ws .entry)) (now (ws .exit)) m ⌝ }
 {
-    let b = w - s;
     let mut k = 0;
     while k < b {
         let a = 1 + k / s;
@@ -45,13 +45,13 @@ fn crossings(ws: &mut [u64], m: DenseBinaryMatrix, s: usize, w: usize, p: usize)
 }
 
 // I_S
-fn identity(ws: &mut [u64], m: DenseBinaryMatrix, s: usize, w: usize)
-    requires { ⌜ Lies m (now ws) × (s ≤ w) × (s ≤ m .height) × (w ≤ m .width) ⌝ }
-    ensures { λ _. ⌜ Added (λ r c. sum s (λ k. adds r c k (w - s + k))) (now (ws .entry)) (now (ws .exit)) m ⌝ }
+fn identity(ws: &mut [u64], m: DenseBinaryMatrix, s: usize, b: usize)
+    requires { ⌜ Lies m (now ws) × (s ≤ m .height) × (b + s ≤ m .width) ⌝ }
+    ensures { λ _. ⌜ Added (λ r c. sum s (λ k. adds r c k (b + k))) (now (ws .entry)) (now (ws .exit)) m ⌝ }
 {
     let mut k = 0;
     while k < s {
-        add_one(ws, m, k, w - s + k);
+        add_one(ws, m, k, b + k);
         k += 1;
     }
 }
@@ -70,12 +70,12 @@ fn endings(ws: &mut [u64], m: DenseBinaryMatrix, s: usize, w: usize, p: usize)
 }
 
 // The LDPC rows.
-pub fn ldpc_rows(ws: &mut [u64], m: DenseBinaryMatrix, s: usize, w: usize, p: usize)
-    requires { ⌜ Lies m (now ws) × Crosses s w p × (s ≤ m .height) × (w + p ≤ m .width) ⌝ }
+pub fn ldpc_rows(ws: &mut [u64], m: DenseBinaryMatrix, s: usize, w: usize, b: usize, p: usize)
+    requires { ⌜ Lies m (now ws) × Crosses s w p × (b ≡ w - s) × (s ≤ m .height) × (w + p ≤ m .width) ⌝ }
     ensures { λ _. ⌜ Added (ldpc s w p) (now (ws .entry)) (now (ws .exit)) m ⌝ }
 {
-    crossings(ws, m, s, w, p);
-    identity(ws, m, s, w);
+    crossings(ws, m, s, w, b, p);
+    identity(ws, m, s, b);
     endings(ws, m, s, w, p);
 }
 

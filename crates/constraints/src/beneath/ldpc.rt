@@ -24,12 +24,11 @@ fn next_step(a: usize, x: usize, s: usize) -> usize
     if x + 1 < s { a } else { a + 1 }
 }
 
-// The first B columns of row r.
-fn crossings(out: &mut [u8], at: usize, s: usize, w: usize, p: usize, r: usize)
-    requires { ⌜ Crosses s w p × (at + (w - s) ≤ length (now out)) ⌝ }
+// The first b columns of row r.
+fn crossings(out: &mut [u8], at: usize, s: usize, w: usize, b: usize, p: usize, r: usize)
+    requires { ⌜ Crosses s w p × (b ≡ w - s) × (at + (w - s) ≤ length (now out)) ⌝ }
     ensures { λ _. ⌜ Written (crossed s r) (now (out .entry)) (now (out .exit)) at (w - s) ⌝ }
 {
-    let b = w - s;
     let mut a = 1;
     let mut x = 0;
     let mut c = 0;
@@ -68,11 +67,11 @@ fn two_of(out: &mut [u8], at: usize, n: usize, x: usize, y: usize)
 }
 
 // Row r, from place `at` of a store on.
-pub fn row(out: &mut [u8], at: usize, s: usize, w: usize, p: usize, r: usize)
-    requires { ⌜ Crosses s w p × (r < s) × (at + (w + p) ≤ length (now out)) ⌝ }
+pub fn row(out: &mut [u8], at: usize, s: usize, w: usize, b: usize, p: usize, r: usize)
+    requires { ⌜ Crosses s w p × (b ≡ w - s) × (r < s) × (at + (w + p) ≤ length (now out)) ⌝ }
     ensures { λ _. ⌜ Written (ldpc s w p r) (now (out .entry)) (now (out .exit)) at (w + p) ⌝ }
 {
-    crossings(out, at, s, w, p, r);
-    one_of(out, at + (w - s), s, r);
+    crossings(out, at, s, w, b, p, r);
+    one_of(out, at + b, s, r);
     two_of(out, at + w, p, r % p, (r + 1) % p);
 }

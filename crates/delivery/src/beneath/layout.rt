@@ -4,10 +4,12 @@ ghost use Prim.Native.Nat.{_+_, _≤_};
 ghost use lib.ListN.{length};
 ghost use Rattle.field.specs.Runs.{Written};
 ghost use Rattle.headers.specs.Bytes.{number};
+ghost use Rattle.headers.specs.Row.{checked, rowOutcome};
 ghost use Rattle.delivery.specs.Layout.{entryAt, infoOf, rowIn};
 use headers::beneath::big_endian;
 use headers::beneath::transmission;
-use headers::row::Row;
+use headers::row;
+use headers::row::Checked;
 use headers::transmission::ObjectTransmissionInformation;
 
 fn word(bytes: &[u8], at: usize) -> u32
@@ -24,16 +26,17 @@ pub fn info(bytes: &[u8]) -> ObjectTransmissionInformation
     transmission::get(bytes)
 }
 
-pub fn row(bytes: &[u8]) -> Row
+// K', J, S, H and W are read; the check makes the record of them.
+pub fn row(bytes: &[u8]) -> Checked
     requires { ⌜ 32 ≤ length (now bytes) ⌝ }
-    ensures { λ r. ⌜ r ≡ rowIn (now (bytes .entry)) ⌝ }
+    ensures { λ r. ⌜ rowOutcome r ≡ checked (rowIn (now (bytes .entry))) ⌝ }
 {
     let k = word(bytes, 12);
     let j = word(bytes, 16);
     let s = word(bytes, 20);
     let h = word(bytes, 24);
     let w = word(bytes, 28);
-    Row { kp: k, j, s, h, w }
+    row::check(k, j, s, h, w)
 }
 
 // V0, V1, V2 and V3 in order.

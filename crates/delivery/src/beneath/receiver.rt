@@ -12,8 +12,9 @@ use crate::beneath::screen;
 use crate::beneath::screen::Screened;
 use crate::beneath::screen::Stop;
 use elimination::verdict::Verdict;
-use headers::beneath::row;
+use field::refusal::Refusal;
 use headers::beneath::util;
+use headers::row::Checked;
 use headers::row::Row;
 use solver::solver::Solution;
 use solver::solver::solve;
@@ -55,7 +56,7 @@ fn attempt(
     ensures { λ o. ⌜ Concludes r (now (tables .entry)) k t f (now (esis .entry)) (now (symbols .entry)) (now (out .entry)) (now (out .exit)) o ⌝ }
 {
     let answer = solve(r, tables, k, t, esis, symbols, rows, values, set);
-    let l = row::l(r) as usize * t as usize;
+    let l = r.l as usize * t as usize;
     match answer {
         Solution::Given(v) => {
             leave(v, r, tables, k, t, &set[..l], out);
@@ -102,7 +103,9 @@ fn hear(bytes: &[u8], out: &mut [u8]) -> Received
     ensures { λ o. ⌜ Heard (now (bytes .entry)) (now (out .entry)) (now (out .exit)) o ⌝ }
 {
     let o = layout::info(bytes);
-    let r = layout::row(bytes);
+    let Checked::Value(r) = layout::row(bytes) else {
+        return Received::Stopped(Stop::Refused(Refusal::BadRow));
+    };
     let f = o.transfer_length as usize;
     let t = o.symbol_size;
     let k = util::int_div_ceil(o.transfer_length, t as u64) as u32;

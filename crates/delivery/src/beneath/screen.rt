@@ -8,8 +8,8 @@ use crate::beneath::layout;
 use crate::beneath::packets;
 use field::refusal;
 use field::refusal::Refusal;
-use headers::beneath::row;
 use headers::beneath::util;
+use headers::row::Checked;
 use headers::row::Row;
 use headers::transmission;
 use headers::transmission::ObjectTransmissionInformation;
@@ -54,11 +54,9 @@ fn screen_info(o: ObjectTransmissionInformation) -> Screened
 }
 
 fn screen_row(r: Row, k: u64, t: u16) -> Screened
+    requires { ⌜ Obeys r ⌝ }
     ensures { λ a. ⌜ screened a ≡ rowScreen r k t ⌝ }
 {
-    if !row::obeys(r) {
-        return Screened::Stopped(Stop::Refused(Refusal::BadRow));
-    }
     if k < 1 {
         return Screened::Stopped(Stop::Refused(Refusal::BadCount));
     }
@@ -68,7 +66,7 @@ fn screen_row(r: Row, k: u64, t: u16) -> Screened
     if t > 1024 {
         return Screened::Stopped(Stop::TooLarge);
     }
-    if row::l(r) > 300 {
+    if r.l > 300 {
         return Screened::Stopped(Stop::TooLarge);
     }
     Screened::Passed
@@ -111,7 +109,9 @@ fn screen_rest(bytes: &[u8], k: u64, t: u16) -> Screened
     requires { ⌜ 32 ≤ length (now bytes) ⌝ }
     ensures { λ a. ⌜ screened a ≡ restScreen (now (bytes .entry)) k t ⌝ }
 {
-    let r = layout::row(bytes);
+    let Checked::Value(r) = layout::row(bytes) else {
+        return Screened::Stopped(Stop::Refused(Refusal::BadRow));
+    };
     let fine = screen_row(r, k, t);
     let Screened::Passed = fine else {
         return fine;

@@ -1,14 +1,12 @@
-// The rules of a parameter row, in document 01's order, and the numbers of a row that obeys them.
-ghost use mathlib.Core.Path.{_≡_};
+// What the check of a parameter row begins with, and the check of a record that a caller hands over.
 ghost use Rattle.headers.specs.Told.{Told};
-ghost use Rattle.headers.specs.Row.{Obeys, Ranges, bOf, lOf, p1Of, pOf, sizesOf};
-use crate::beneath::prime;
-use crate::beneath::util;
+ghost use Rattle.headers.specs.Row.{Obeys, Ranges};
+use crate::row;
+use crate::row::Checked;
 use crate::row::Row;
-use crate::row::Sizes;
 
 // Each number in its range.
-fn in_range(kp: u32, j: u32, s: u32, h: u32, w: u32) -> bool
+pub fn in_range(kp: u32, j: u32, s: u32, h: u32, w: u32) -> bool
     ensures { λ t. ⌜ Told t (Ranges kp j s h w) ⌝ }
 {
     if kp >= 65536 {
@@ -47,70 +45,24 @@ fn in_range(kp: u32, j: u32, s: u32, h: u32, w: u32) -> bool
     true
 }
 
+// Whether a record is the one that the check makes of its five numbers. A caller in C can hand over any nine.
 pub fn obeys(r: Row) -> bool
     ensures { λ t. ⌜ Told t (Obeys r) ⌝ }
 {
-    let s = r.s;
-    let w = r.w;
-    if !in_range(r.kp, r.j, s, r.h, w) {
+    let Checked::Value(made) = row::check(r.kp, r.j, r.s, r.h, r.w) else {
+        return false;
+    };
+    if r.l != made.l {
         return false;
     }
-    if !prime::is_prime(w) {
+    if r.p != made.p {
         return false;
     }
-    if w <= s {
+    if r.b != made.b {
         return false;
     }
-    let l = l(r);
-    if l < w + 3 {
-        return false;
-    }
-    if util::int_div_ceil((w - s) as u64, s as u64) >= s as u64 {
-        return false;
-    }
-    if l > 65535 {
+    if r.p1 != made.p1 {
         return false;
     }
     true
-}
-
-// The one sum of K', S and H: `obeys` asks for it before it knows that the row obeys.
-pub fn l(r: Row) -> u32
-    requires { ⌜ Ranges (r .kp) (r .j) (r .s) (r .h) (r .w) ⌝ }
-    ensures { λ n. ⌜ n ≡ lOf r ⌝ }
-{
-    r.kp + r.s + r.h
-}
-
-pub fn p(r: Row) -> u32
-    requires { ⌜ Obeys r ⌝ }
-    ensures { λ n. ⌜ n ≡ pOf r ⌝ }
-{
-    l(r) - r.w
-}
-
-pub fn b(r: Row) -> u32
-    requires { ⌜ Obeys r ⌝ }
-    ensures { λ n. ⌜ n ≡ bOf r ⌝ }
-{
-    r.w - r.s
-}
-
-pub fn p1(r: Row) -> u32
-    requires { ⌜ Obeys r ⌝ }
-    ensures { λ n. ⌜ n ≡ p1Of r ⌝ }
-{
-    prime::first_prime(p(r))
-}
-
-pub fn sizes(r: Row) -> Sizes
-    requires { ⌜ Obeys r ⌝ }
-    ensures { λ z. ⌜ z ≡ sizesOf r ⌝ }
-{
-    Sizes {
-        l: l(r),
-        p: p(r),
-        b: b(r),
-        p1: p1(r),
-    }
 }

@@ -9,7 +9,6 @@ use crate::beneath::filling;
 use crate::beneath::sizes;
 use elimination::beneath::solving;
 use elimination::verdict::Verdict;
-use headers::beneath::row;
 use headers::row::Row;
 
 pub fn run(
@@ -30,7 +29,7 @@ pub fn run(
 {
     let n = t as usize;
     let m = sizes::m(r, k, esis.len());
-    let l = row::l(r) as usize;
+    let l = r.l as usize;
     filling::fill(rows, values, tables, esis, symbols, k, n, r);
     solving::solve_stored(rows, values, out, m, l, n)
 }

@@ -5,12 +5,12 @@ ghost use Rattle.headers.specs.Row.{Obeys};
 ghost use Rattle.solver.specs.System.{equations, fixed as System·fixed};
 use headers::row::Row;
 
-// Beside the arrivals.
+// Beside the arrivals: S + H + K' - K, which is L - K.
 pub fn fixed(r: Row, k: u32) -> usize
     requires { ⌜ Obeys r × (k ≤ r .kp) ⌝ }
     ensures { λ n. ⌜ n ≡ System·fixed r k ⌝ }
 {
-    (r.s + r.h + (r.kp - k)) as usize
+    (r.l - k) as usize
 }
 
 // M, with n arrivals.

@@ -28,38 +28,47 @@ cast-height c = search needs
 add-height-2 : tie.Need-add-height-2
 add-height-2 c = let o = c .before .before .before .before .before .before .before .pre .0 in omega (arith, o .l-high)
 
-l-requires : tie.Need-l-requires
-l-requires c κs = search needs
-
 cast-width : tie.Need-cast-width
 cast-width c = search needs
 
 add-if4 : tie.Need-add-if4
-add-if4 c = let o = c .before .before .before .before .before .before .before .before .pre .0 in omega (arith, o .l-high, c .l .ensures)
+add-if4 c = let o = c .before .before .before .before .before .before .before .before .pre .0 in omega (arith, o .l-high, o .derived .l-fits)
 
 mul-if4 : tie.Need-mul-if4
 mul-if4 c =
     let s = c .before .before .before .before .before .before .before .before in
-    rw (c .l .ensures) (omega (arith, fits (s .pre .0) (s .args .zeros) (length (s .args .isis .now)) (s .pre .1) (omega arith)))
+    rw (s .pre .0 .derived .l-fits) (omega (arith, fits (s .pre .0) (s .args .zeros) (length (s .args .isis .now)) (s .pre .1) (omega arith)))
 
 returns-4 : tie.Need-returns-4
 returns-4 c =
-    let h = rw (c .before .l .ensures) at (c .if4 .taken) in
-    record { answer = simp (obeyed (c .before .before .before .before .before .before .before .before .before .pre .0), eq-eqb _ _ (c .before .before .before .before .before .if1 .left), le-ltb _ _ (c .before .before .before .before .if2 .left), le-ltb 65535 _ (c .before .before .before .if3 .left), lt-ltb _ _ h); memory = refl }
+    let o = c .before .before .before .before .before .before .before .before .before .pre .0 in
+    let h = rw (o .derived .l-fits) at (c .if4 .taken) in
+    let t = c .before .before .before in
+    record {
+      answer = simp (obeyed o, eq-eqb _ _ (t .before .before .if1 .left), le-ltb _ _ (t .before .if2 .left), le-ltb 65535 _ (t .if3 .left), lt-ltb _ _ h);
+      memory = refl;
+    }
 
 fill-requires : tie.Need-fill-requires
 fill-requires c κs =
     let s = c .before .before .before .before .before .before .before .before .before .before in
-    (s .pre .0, c .before .before .before .before .before .before .if1 .left, s .pre .1, omega arith, record { narrow = omega (arith, s .pre .0 .l-high); room = rw (c .before .before .l .ensures) at (c .before .if4 .left) })
+    let o = s .pre .0 in
+    let h = rw (o .derived .l-fits) at (c .before .if4 .left) in
+    (o, c .before .before .before .before .before .before .if1 .left, s .pre .1, omega arith, record { narrow = omega (arith, o .l-high); room = h })
 
 same-length : tie.Need-same-length
 same-length c = search needs
 
 returns-5 : tie.Need-returns-5
 returns-5 c =
-    let h = rw (c .before .before .before .before .before .l .ensures) at (c .before .before .before .before .if4 .left) in
+    let o = c .before .before .before .before .before .before .before .before .before .before .before .before .before .pre .0 in
+    let e = o .derived .l-fits in
+    let t = c .before .before .before .before .before .before .before in
+    let h = rw e at (c .before .before .before .before .if4 .left) in
     record {
-      answer = rw (c .before .before .before .before .before .l .ensures) (simp (obeyed (c .before .before .before .before .before .before .before .before .before .before .before .before .before .pre .0), eq-eqb _ _ (c .before .before .before .before .before .before .before .before .before .if1 .left), le-ltb _ _ (c .before .before .before .before .before .before .before .before .if2 .left), le-ltb 65535 _ (c .before .before .before .before .before .before .before .if3 .left), le-ltb _ _ h));
+      answer =
+          simp (obeyed o, eq-eqb _ _ (t .before .before .if1 .left), le-ltb _ _ (t .before .if2 .left), le-ltb 65535 _ (t .if3 .left), le-ltb _ _ h)
+          (rw e);
       memory = c .before .before .fill .ensures;
     }
 
@@ -73,7 +82,6 @@ build-spec =
     add-height
     cast-height
     add-height-2
-    l-requires
     cast-width
     add-if4
     mul-if4

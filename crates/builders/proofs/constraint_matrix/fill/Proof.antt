@@ -20,23 +20,17 @@ add-from c = let o = c .before .before .before .before .pre .0 in omega (arith, 
 add-height : tie.Need-add-height
 add-height c = let o = c .before .before .before .before .pre .0 in omega (arith, o .l-high)
 
-l-requires : tie.Need-l-requires
-l-requires c κs = search needs
-
 cast-width : tie.Need-cast-width
 cast-width c = search needs
 
-p-requires : tie.Need-p-requires
-p-requires c κs = search needs
-
 add-clear : tie.Need-add-clear
-add-clear c = let o = c .before .before .before .before .before .before .before .pre .0 in omega (arith, o .l-high, c .before .before .l .ensures)
+add-clear c = let o = c .before .before .before .before .before .before .pre .0 in omega (arith, o .l-high, o .derived .l-fits)
 
 mul-clear : tie.Need-mul-clear
-mul-clear c = rw (c .before .before .l .ensures) (omega (arith, c .before .before .before .before .before .before .before .pre .4 .room))
+mul-clear c = let p = c .before .before .before .before .before .before .pre in rw (p .0 .derived .l-fits) (omega (arith, p .4 .room))
 
 clear-requires : tie.Need-clear-requires
-clear-requires c κs = rw (c .before .before .l .ensures) (c .before .before .before .before .before .before .before .pre .4 .room)
+clear-requires c κs = let p = c .before .before .before .before .before .before .pre in rw (p .0 .derived .l-fits) (p .4 .room)
 
 cast-ldpc-rows : tie.Need-cast-ldpc-rows
 cast-ldpc-rows c = search needs
@@ -44,22 +38,24 @@ cast-ldpc-rows c = search needs
 cast-ldpc-rows-2 : tie.Need-cast-ldpc-rows-2
 cast-ldpc-rows-2 c = search needs
 
+cast-ldpc-rows-3 : tie.Need-cast-ldpc-rows-3
+cast-ldpc-rows-3 c = search needs
+
 ldpc-rows-requires : tie.Need-ldpc-rows-requires
 ldpc-rows-requires c κs =
-    let s = c .before .before .before .before .before .before .before .before .before .before .before .before in
+    let s = c .before .before .before .before .before .before .before .before .before .before .before .before .before in
     let o : Obeys (s .args .r) = s .pre .0 in
-    rw (c .before .before .before .before .before .before .before .l .ensures, c .before .before .before .before .before .before .p .ensures)
-    (lies-on (s .pre .4) (c .before .before .before .before .clear .ensures .size), crosses o, omega arith, omega (arith, l-is o))
-
-p1-requires : tie.Need-p1-requires
-p1-requires c κs = search needs
+    let d = o .derived in
+    rw (d .l-fits, d .p-fits)
+    (lies-on (s .pre .4) (c .before .before .before .before .before .before .clear .ensures .size), crosses o, d .b-fits, omega arith, omega (arith, l-is o))
 
 enc-rows-requires : tie.Need-enc-rows-requires
 enc-rows-requires c κs =
     let s = c .before .before .before .before .before .before .before .before .before .before .before .before .before .before .before .before .before in
     let o : Obeys (s .args .r) = s .pre .0 in
-    rw (c .before .before .before .before .before .before .before .before .before .before .before .before .l .ensures, c .before .before .before .before .before .before .before .before .before .before .before .p .ensures, c .p1 .ensures)
-    (lies-on (s .pre .4) (c .before .before .before .before .ldpc-rows .ensures .size ∙ c .before .before .before .before .before .before .before .before .before .clear .ensures .size), omega arith, walks o, ready o (s .pre .1), omega (arith, l-is o))
+    let d = o .derived in
+    let size = c .before .before .before .ldpc-rows .ensures .size ∙ c .before .before .before .before .before .before .before .before .before .before .clear .ensures .size in
+    rw (d .l-fits, d .p-fits, d .p1-fits) (lies-on (s .pre .4) size, omega arith, walks o, ready o (s .pre .1), omega (arith, l-is o))
 
 same-length : tie.Need-same-length
 same-length c = search needs
@@ -68,10 +64,11 @@ returns : tie.Need-returns
 returns c =
     let s = c .before .before .before .before .before .before .before .before .before .before .before .before .before .before .before .before .before .before .before .before in
     let a = s .args in
+    let d = s .pre .0 .derived in
     built (a .tables .now) (a .isis .now) (a .r) (a .zeros) (omega (arith, s .pre .0 .ranges .s-low))
-    (rw (c .before .before .before .before .before .before .before .before .before .before .before .before .before .before .before .l .ensures) at (c .before .before .before .before .before .before .before .before .before .before .before .before .clear .ensures))
-    (rw (c .before .before .before .before .before .before .before .before .before .before .before .before .before .before .before .l .ensures, c .before .before .before .before .before .before .before .before .before .before .before .before .before .before .p .ensures) at (c .before .before .before .before .before .before .before .ldpc-rows .ensures))
-    (rw (c .before .before .before .before .before .before .before .before .before .before .before .before .before .before .before .l .ensures, c .before .before .before .before .before .before .before .before .before .before .before .before .before .before .p .ensures, c .before .before .before .p1 .ensures) at (c .before .before .enc-rows .ensures))
+    (rw (d .l-fits) at (c .before .before .before .before .before .before .before .before .before .before .before .before .before .clear .ensures))
+    (rw (d .l-fits, d .p-fits) at (c .before .before .before .before .before .before .ldpc-rows .ensures))
+    (rw (d .l-fits, d .p-fits, d .p1-fits) at (c .before .before .enc-rows .ensures))
     (λ k. let h = c .slice-known4 .given k in omega arith)
 
 pub fill-spec : {M : Type 1} → statement M
@@ -81,16 +78,14 @@ fill-spec =
     cast-s
     add-from
     add-height
-    l-requires
     cast-width
-    p-requires
     add-clear
     mul-clear
     clear-requires
     cast-ldpc-rows
     cast-ldpc-rows-2
+    cast-ldpc-rows-3
     ldpc-rows-requires
-    p1-requires
     enc-rows-requires
     same-length
     returns)

@@ -28,9 +28,6 @@ returns-2 c = record { answer = simp (obeyed (fine (c .before)), ne-eqb _ _ (c .
 cast-h : tie.Need-cast-h
 cast-h c = search needs
 
-l-requires : tie.Need-l-requires
-l-requires c κs = fine (c .before .before) .ranges
-
 cast-l : tie.Need-cast-l
 cast-l c = search needs
 
@@ -38,16 +35,18 @@ mul-if3 : tie.Need-mul-if3
 mul-if3 c =
     let o = fine (c .before .before .before) in
     let r = c .before .before .before .before .before .before .before .args .r in
-    rw (c .l .ensures) (omega (arith, mul-le-mul {n₁ = r .h} {m₁ = lOf r} {n₂ = 255} {m₂ = 65535} (o .ranges .h-high) (o .l-high)))
+    rw (o .derived .l-fits) (omega (arith, mul-le-mul {n₁ = r .h} {m₁ = lOf r} {n₂ = 255} {m₂ = 65535} (o .ranges .h-high) (o .l-high)))
 
 returns-3 : tie.Need-returns-3
 returns-3 c =
-    let e = rw (c .before .l .ensures) at (c .if3 .taken) in
-    record { answer = simp (obeyed (fine (c .before .before .before .before)), eq-eqb _ _ (c .before .before .before .if2 .left), lt-ltb _ _ e); memory = refl }
+    let o = fine (c .before .before .before .before) in
+    let e = rw (o .derived .l-fits) at (c .if3 .taken) in
+    record { answer = simp (obeyed o, eq-eqb _ _ (c .before .before .before .if2 .left), lt-ltb _ _ e); memory = refl }
 
 generate-hdpc-rows-requires : tie.Need-generate-hdpc-rows-requires
 generate-hdpc-rows-requires c κs =
     let o = fine (c .before .before .before .before .before) in
+    let e = o .derived .l-fits in
     (c .before .before .before .before .if2 .left, omega (arith, o .ranges .kp-low), o .ranges .h-low, omega (arith, o .l-high), omega arith)
 
 same-length : tie.Need-same-length
@@ -55,12 +54,12 @@ same-length c = search needs
 
 returns-4 : tie.Need-returns-4
 returns-4 c =
-    let t = c .before .before .before .before .before .before .before in
-    let r = t .before .before .before .before .before .args .r in
-    let e = c .before .before .before .before .before .l .ensures in
+    let o = fine (c .before .before .before .before .before .before .before .before) in
+    let r = c .before .before .before .before .before .before .before .before .before .before .before .before .args .r in
+    let e = o .derived .l-fits in
     let n : lOf r - r .h ≡ r .kp + r .s = omega arith in
     record {
-      answer = simp (obeyed (fine (t .before)), eq-eqb _ _ (t .if2 .left), le-ltb _ _ (rw e at (c .before .before .before .before .if3 .left)));
+      answer = simp (obeyed o, eq-eqb _ _ (c .before .before .before .before .before .before .before .if2 .left), le-ltb _ _ (rw e at (c .before .before .before .before .if3 .left)));
       memory = rw (e, n) at (c .before .before .generate-hdpc-rows .ensures);
     }
 
@@ -72,7 +71,6 @@ generate-hdpc-rows-spec =
     returns
     returns-2
     cast-h
-    l-requires
     cast-l
     mul-if3
     returns-3

@@ -37,32 +37,31 @@ returns-5 c = simp (obeyed (fine (c .before .before .before .before .before)), e
 returns-6 : tie.Need-returns-6
 returns-6 c = simp (obeyed (fine (c .before .before .before .before .before .before)), eq-eqb _ _ (c .before .before .before .before .before .if2 .left), le-leb _ _ (c .before .before .before .before .if3 .left), le-leb _ _ (c .before .before .if4 .left), lt-leb _ _ (c .before .if5 .left), eq-eqb _ _ (c .if6 .taken))
 
-l-requires : tie.Need-l-requires
-l-requires c κs = fine (c .before .before .before .before .before .before) .ranges
-
 cast-if7 : tie.Need-cast-if7
 cast-if7 c = search needs
 
 mul-if7 : tie.Need-mul-if7
 mul-if7 c =
-    omega (arith, mul-le-mul {n₁ = c .l .result} {m₁ = c .before .before .before .before .before .before .before .before .before .args .t} {n₂ = 65535} {m₂ = 65535} (omega (arith, c .l .ensures, fine (c .before .before .before .before .before .before .before) .l-high)) (omega arith))
+    let a = c .before .before .before .before .before .before .before .before .before .args in
+    let o = fine (c .before .before .before .before .before .before .before) in
+    omega (arith, mul-le-mul {n₁ = a .r .l} {m₁ = a .t} {n₂ = 65535} {m₂ = 65535} (omega (arith, o .derived .l-fits, o .l-high)) (omega arith))
 
 returns-7 : tie.Need-returns-7
 returns-7 c =
     let a = c .before .before .before .before .before .before .before .before .before .before .args in
-    let e : a .have < lOf (a .r) * a .t = subst (λ (n : ℕ). a .have < n * a .t) (c .before .l .ensures) (c .if7 .taken) in
+    let e : a .have < lOf (a .r) * a .t = subst (λ (n : ℕ). a .have < n * a .t) (fine (c .before .before .before .before .before .before .before .before) .derived .l-fits) (c .if7 .taken) in
     simp (obeyed (fine (c .before .before .before .before .before .before .before .before)), eq-eqb _ _ (c .before .before .before .before .before .before .before .if2 .left), le-leb _ _ (c .before .before .before .before .before .before .if3 .left), le-leb _ _ (c .before .before .before .before .if4 .left), lt-leb _ _ (c .before .before .before .if5 .left), ne-eqb _ _ (c .before .before .if6 .left), lt-ltb _ _ e)
 
 returns-8 : tie.Need-returns-8
 returns-8 c =
     let a = c .before .before .before .before .before .before .before .before .before .before .before .args in
-    let e : lOf (a .r) * a .t ≤ a .have = subst (λ (n : ℕ). n * a .t ≤ a .have) (c .before .before .l .ensures) (c .before .if7 .left) in
+    let e : lOf (a .r) * a .t ≤ a .have = subst (λ (n : ℕ). n * a .t ≤ a .have) (fine (c .before .before .before .before .before .before .before .before .before) .derived .l-fits) (c .before .if7 .left) in
     simp (obeyed (fine (c .before .before .before .before .before .before .before .before .before)), eq-eqb _ _ (c .before .before .before .before .before .before .before .before .if2 .left), le-leb _ _ (c .before .before .before .before .before .before .before .if3 .left), le-leb _ _ (c .before .before .before .before .before .if4 .left), lt-leb _ _ (c .before .before .before .before .if5 .left), ne-eqb _ _ (c .before .before .before .if6 .left), le-ltb _ _ e, lt-ltb _ _ (c .if8 .taken))
 
 returns-9 : tie.Need-returns-9
 returns-9 c =
     let a = c .before .before .before .before .before .before .before .before .before .before .before .args in
-    let e : lOf (a .r) * a .t ≤ a .have = subst (λ (n : ℕ). n * a .t ≤ a .have) (c .before .before .l .ensures) (c .before .if7 .left) in
+    let e : lOf (a .r) * a .t ≤ a .have = subst (λ (n : ℕ). n * a .t ≤ a .have) (fine (c .before .before .before .before .before .before .before .before .before) .derived .l-fits) (c .before .if7 .left) in
     simp (obeyed (fine (c .before .before .before .before .before .before .before .before .before)), eq-eqb _ _ (c .before .before .before .before .before .before .before .before .if2 .left), le-leb _ _ (c .before .before .before .before .before .before .before .if3 .left), le-leb _ _ (c .before .before .before .before .before .if4 .left), lt-leb _ _ (c .before .before .before .before .if5 .left), ne-eqb _ _ (c .before .before .before .if6 .left), le-ltb _ _ e, le-ltb _ _ (c .if8 .left))
 
 pub check-spec : {M : Type 1} → statement M
@@ -76,7 +75,6 @@ check-spec =
     returns-4
     returns-5
     returns-6
-    l-requires
     cast-if7
     mul-if7
     returns-7

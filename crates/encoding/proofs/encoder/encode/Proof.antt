@@ -27,15 +27,15 @@ well c =
     (told (c .before .before .check .result) (c .before .before .check .ensures) (c .enum-told .given .1))
 
 -- the tuple is that of the shifted ESI
-made : (c : tie.After-intermediate-tuple) → let a = c .before .before .before .before .before .before .before .before .before .args in c .intermediate-tuple .result ≡ tupleOn (a .tables .now) (a .r) (shifted (a .esi) (a .k) (a .r .kp))
+made : (c : tie.After-intermediate-tuple) → let a = c .before .before .before .before .before .before .before .before .args in c .intermediate-tuple .result ≡ tupleOn (a .tables .now) (a .r) (shifted (a .esi) (a .k) (a .r .kp))
 made c =
-    let a = c .before .before .before .before .before .before .before .before .before .args in
-    tuple-is (a .tables .now) (a .r) (c .intermediate-tuple .ensures) (c .before .p1 .ensures) (c .before .before .isi-of .ensures)
+    let a = c .before .before .before .before .before .before .before .before .args in
+    tuple-is (a .tables .now) (a .r) (c .intermediate-tuple .ensures) (well (c .before .before) .rules .derived .p1-fits) (c .before .isi-of .ensures)
 
 short : (c : tie.After-intermediate-tuple) → steps (c .intermediate-tuple .result) ≤ 32
 short c =
-    let a = c .before .before .before .before .before .before .before .before .before .args in
-    let h = well (c .before .before .before) in
+    let a = c .before .before .before .before .before .before .before .before .args in
+    let h = well (c .before .before) in
     subst (λ (z : Tuple). steps z ≤ 32) (sym (made c)) (walk-fits (h .rules) (a .tables .now) (h .all) (shifted (a .esi) (a .k) (a .r .kp)))
 
 check-requires : tie.Need-check-requires
@@ -57,35 +57,30 @@ returns c =
 isi-of-requires : tie.Need-isi-of-requires
 isi-of-requires c κs = let h = well c in (h .esi-24, omega (arith, h .k-high), h .rules .ranges .kp-16)
 
-p1-requires : tie.Need-p1-requires
-p1-requires c κs = well (c .before) .rules
-
 intermediate-tuple-requires : tie.Need-intermediate-tuple-requires
-intermediate-tuple-requires c κs =
-    let h = well (c .before .before) in
-    let a = c .before .before .before .before .before .before .before .before .args in
-    subst (Ready (a .tables .now) (a .r .j) (a .r .w)) (sym (c .p1 .ensures)) (ready (h .rules) (h .all))
+intermediate-tuple-requires c κs = let h = well (c .before) in rw (h .rules .derived .p1-fits) (ready (h .rules) (h .all))
 
 add-if1 : tie.Need-add-if1
 add-if1 c = omega (arith, short (c .before))
 
 returns-2 : tie.Need-returns-2
 returns-2 c =
-    let a = c .before .before .before .before .before .before .before .before .before .before .before .args in
+    let a = c .before .before .before .before .before .before .before .before .before .before .args in
     let e = made (c .before .before) in
+    let checked = c .before .before .before .before .before .before in
     let l : 32 < steps (tupleOn (a .tables .now) (a .r) (shifted (a .esi) (a .k) (a .r .kp))) = subst (λ (z : Tuple). 32 < steps z) e (c .if1 .taken) in
-    record { answer = sym (went-on (c .before .before .before .before .before .before .before .check .result) (c .before .before .before .before .before .before .before .check .ensures) _ (c .before .before .before .before .before .enum-told .given .1) ∙ simp (lt-ltb _ _ l)); memory = refl }
-
-p-requires : tie.Need-p-requires
-p-requires c κs = well (c .before .before .before .before .before .before) .rules
+    record {
+      answer = sym (went-on (checked .check .result) (checked .check .ensures) _ (c .before .before .before .before .enum-told .given .1) ∙ simp (lt-ltb _ _ l));
+      memory = refl;
+    }
 
 enc-requires : tie.Need-enc-requires
 enc-requires c κs =
-    let h = well (c .before .before .before .before .before .before .before) in
-    let m = c .before .before .before .before in
-    let a = c .before .before .before .before .before .before .before .before .before .before .before .before .before .args in
+    let h = well (c .before .before .before .before .before) in
+    let m = c .before .before .before in
+    let a = c .before .before .before .before .before .before .before .before .before .before .before .args in
     let o = h .rules in
-    rw (c .p .ensures, c .before .before .before .before .before .p1 .ensures) (
+    rw (o .derived .p-fits, o .derived .p1-fits) (
       walks o,
       subst (Bounds (a .r .w) (p1Of (a .r))) (sym (made m)) (bounded (ready o (h .all)) (shifted (a .esi) (a .k) (a .r .kp))),
       short m,
@@ -98,13 +93,17 @@ same-length c = search needs
 
 returns-3 : tie.Need-returns-3
 returns-3 c =
-    let h = well (c .before .before .before .before .before .before .before .before .before .before) in
-    let m = c .before .before .before .before .before .before .before in
-    let a = c .before .before .before .before .before .before .before .before .before .before .before .before .before .before .before .before .args in
-    let l : steps (tupleOn (a .tables .now) (a .r) (shifted (a .esi) (a .k) (a .r .kp))) ≤ 32 = walk-fits (h .rules) (a .tables .now) (h .all) (shifted (a .esi) (a .k) (a .r .kp)) in
+    let h = well (c .before .before .before .before .before .before .before .before) in
+    let m = c .before .before .before .before .before .before in
+    let a = c .before .before .before .before .before .before .before .before .before .before .before .before .before .before .args in
+    let d = h .rules .derived in
+    let checked = c .before .before .before .before .before .before .before .before .before .before in
+    let x = shifted (a .esi) (a .k) (a .r .kp) in
+    let l : steps (tupleOn (a .tables .now) (a .r) x) ≤ 32 = walk-fits (h .rules) (a .tables .now) (h .all) x in
     record {
-      answer = sym (went-on (c .before .before .before .before .before .before .before .before .before .before .before .before .check .result) (c .before .before .before .before .before .before .before .before .before .before .before .before .check .ensures) _ (c .before .before .before .before .before .before .before .before .before .before .enum-told .given .1) ∙ simp (le-ltb _ _ l));
-      memory = encoded-walk (h .rules) (a .tables .now) (shifted (a .esi) (a .k) (a .r .kp)) (a .t) (a .intermediates .now) (made m) (c .before .before .before .p .ensures) (c .before .before .before .before .before .before .before .before .p1 .ensures) (c .before .before .enc .ensures);
+      answer = sym (went-on (checked .check .result) (checked .check .ensures) _ (c .before .before .before .before .before .before .before .before .enum-told .given .1) ∙ simp (le-ltb _ _ l));
+      memory =
+          encoded-walk (h .rules) (a .tables .now) x (a .t) (a .intermediates .now) (made m) (d .p-fits) (d .p1-fits) (c .before .before .enc .ensures);
     }
 
 pub encode-spec : {M : Type 1} → statement M
@@ -116,11 +115,9 @@ encode-spec =
     enum-told-2
     returns
     isi-of-requires
-    p1-requires
     intermediate-tuple-requires
     add-if1
     returns-2
-    p-requires
     enc-requires
     same-length
     returns-3)

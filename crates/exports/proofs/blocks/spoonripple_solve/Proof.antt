@@ -23,7 +23,7 @@ returns : tie.Need-returns
 returns c =
     let at = c .before .before .before .before .before .before in
     let a = at .before .before .before .before .before .before .before .before .before .before .before .before .args in
-    told-unroomed (row (a .k) (a .j) (a .s) (a .h) (a .w)) (now (a .tables)) (a .count) (a .t) (now (a .esis)) (now (a .symbols)) (now (a .rows)) (now (a .values)) (now (a .out)) (now (a .shortfall)) (at .unroomed .last .1 .1 .1 .1 .1 .1 .0) (at .unroomed .last .1 .1 .1 .1 .1 .1 .1 .0) (at .unroomed .last .1 .1 .1 .1 .1 .1 .1 .1 .0) (at .before .before .before .before .if1 .taken) (at .unroomed .ensures .0) (at .unroomed .ensures .1)
+    told-unroomed (row (a .k) (a .j) (a .s) (a .h) (a .w) (a .l) (a .p) (a .b) (a .p1)) (now (a .tables)) (a .count) (a .t) (now (a .esis)) (now (a .symbols)) (now (a .rows)) (now (a .values)) (now (a .out)) (now (a .shortfall)) (at .unroomed .last .1 .1 .1 .1 .1 .1 .0) (at .unroomed .last .1 .1 .1 .1 .1 .1 .1 .0) (at .unroomed .last .1 .1 .1 .1 .1 .1 .1 .1 .0) (at .before .before .before .before .if1 .taken) (at .unroomed .ensures .0) (at .unroomed .ensures .1)
 
 solve-requires : tie.Need-solve-requires
 solve-requires c κs = search needs
@@ -56,7 +56,7 @@ returns-2 : tie.Need-returns-2
 returns-2 c =
     let at = c .before .before .before .before .before .before .before .before .before .before .before .before .before in
     let a = at .before .before .before .before .before .before .before .before .before .before .before .before .args in
-    told-given (row (a .k) (a .j) (a .s) (a .h) (a .w)) (now (a .tables)) (a .count) (a .t) (now (a .esis)) (now (a .symbols)) (now (a .rows)) (now (a .values)) (now (a .out)) (now (a .shortfall)) (at .solve .last .1 .1 .1 .1 .1 .1 .0) (at .solve .last .1 .1 .1 .1 .1 .1 .1 .0) (at .solve .last .1 .1 .1 .1 .1 .1 .1 .1 .0) (c .before .before .tell .last .1 .0) _ _ (at .before .before .before .before .if1 .left) (at .solve .ensures) (c .before .before .before .before .before .v .given .1) (c .before .before .tell .ensures)
+    told-given (row (a .k) (a .j) (a .s) (a .h) (a .w) (a .l) (a .p) (a .b) (a .p1)) (now (a .tables)) (a .count) (a .t) (now (a .esis)) (now (a .symbols)) (now (a .rows)) (now (a .values)) (now (a .out)) (now (a .shortfall)) (at .solve .last .1 .1 .1 .1 .1 .1 .0) (at .solve .last .1 .1 .1 .1 .1 .1 .1 .0) (at .solve .last .1 .1 .1 .1 .1 .1 .1 .1 .0) (c .before .before .tell .last .1 .0) _ _ (at .before .before .before .before .if1 .left) (at .solve .ensures) (c .before .before .before .before .before .v .given .1) (c .before .before .tell .ensures)
 
 same-length-8 : tie.Need-same-length-8
 same-length-8 c = search needs
@@ -71,7 +71,7 @@ returns-3 : tie.Need-returns-3
 returns-3 c =
     let at = c .before .before .before .before .before .before .before .before .before .before in
     let a = at .before .before .before .before .before .before .before .before .before .before .before .before .args in
-    told-refused (row (a .k) (a .j) (a .s) (a .h) (a .w)) (now (a .tables)) (a .count) (a .t) (now (a .esis)) (now (a .symbols)) (now (a .rows)) (now (a .values)) (now (a .out)) (now (a .shortfall)) (at .solve .last .1 .1 .1 .1 .1 .1 .0) (at .solve .last .1 .1 .1 .1 .1 .1 .1 .0) (at .solve .last .1 .1 .1 .1 .1 .1 .1 .1 .0) _ _ (at .solve .ensures) (c .before .before .why .given .1) (c .number .ensures)
+    told-refused (row (a .k) (a .j) (a .s) (a .h) (a .w) (a .l) (a .p) (a .b) (a .p1)) (now (a .tables)) (a .count) (a .t) (now (a .esis)) (now (a .symbols)) (now (a .rows)) (now (a .values)) (now (a .out)) (now (a .shortfall)) (at .solve .last .1 .1 .1 .1 .1 .1 .0) (at .solve .last .1 .1 .1 .1 .1 .1 .1 .0) (at .solve .last .1 .1 .1 .1 .1 .1 .1 .1 .0) _ _ (at .solve .ensures) (c .before .before .why .given .1) (c .number .ensures)
 
 pub spoonripple-solve-spec : {M : Type 1} → statement M
 spoonripple-solve-spec =

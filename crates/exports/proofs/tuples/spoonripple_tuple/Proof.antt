@@ -17,23 +17,23 @@ intermediate-tuple-requires c κs = search needs
 enum-known-t : tie.Need-enum-known-t
 enum-known-t c = search needs
 
-cast-t16 : tie.Need-cast-t16
-cast-t16 c = search needs
-
-cast-t17 : tie.Need-cast-t17
-cast-t17 c = search needs
-
-cast-t18 : tie.Need-cast-t18
-cast-t18 c = search needs
-
-cast-t19 : tie.Need-cast-t19
-cast-t19 c = search needs
-
 cast-t20 : tie.Need-cast-t20
 cast-t20 c = search needs
 
 cast-t21 : tie.Need-cast-t21
 cast-t21 c = search needs
+
+cast-t22 : tie.Need-cast-t22
+cast-t22 c = search needs
+
+cast-t23 : tie.Need-cast-t23
+cast-t23 c = search needs
+
+cast-t24 : tie.Need-cast-t24
+cast-t24 c = search needs
+
+cast-t25 : tie.Need-cast-t25
+cast-t25 c = search needs
 
 slice-aggregate-hand : tie.Need-slice-aggregate-hand
 slice-aggregate-hand c = search needs
@@ -69,12 +69,12 @@ spoonripple-tuple-spec =
     row-number-requires
     intermediate-tuple-requires
     enum-known-t
-    cast-t16
-    cast-t17
-    cast-t18
-    cast-t19
     cast-t20
     cast-t21
+    cast-t22
+    cast-t23
+    cast-t24
+    cast-t25
     slice-aggregate-hand
     hand-requires
     enum-known-why

@@ -1,31 +1,104 @@
 -- `headers::row::check` meets its contract.
 -- Assumes nothing.
-use mathlib.Core.Path.{ap}
+use native.Mathlib.Omega.{arith}
 use borrow.Author.Needs.{needs}
-use Rattle.field.specs.Answer.{given}
-use Rattle.headers.specs.Row.{Obeys}
+use Rattle.headers.specs.Row.{Ranges, rowOf}
 use Rattle.headers.proofs.Tests.{granted, denied}
-use Rattle.headers.proofs.Accepted.{obeyed, broken}
+use Rattle.headers.proofs.Accepted.{five, made-row, refused-row}
 use Rattle.headers.proofs.row.check.Statement.{statement}
 use Rattle.headers.proofs.row.check.Tie as tie
 
-obeys-requires : tie.Need-obeys-requires
-obeys-requires c κs = search needs
+in-range-requires : tie.Need-in-range-requires
+in-range-requires c κs = search needs
 
 returns : tie.Need-returns
 returns c =
-    let b = c .before .obeys .result in
-    simp (broken (denied b (c .if1 .taken) (c .before .obeys .ensures)))
+    let a = c .before .before .args in
+    refused-row (rowOf (a .kp) (a .j) (a .s) (a .h) (a .w)) (λ o. denied (c .before .in-range .result) (c .if1 .taken) (c .before .in-range .ensures) (o .ranges))
 
--- past the test the rules hold
-fine : (c : tie.Else1) → Obeys (c .before .before .args .r)
-fine c = granted (c .before .obeys .result) (c .if1 .left) (c .before .obeys .ensures)
+-- past the first test each number is in its range
+ranged : (c : tie.Else1) → let a = c .before .before .args in Ranges (a .kp) (a .j) (a .s) (a .h) (a .w)
+ranged c = granted (c .before .in-range .result) (c .if1 .left) (c .before .in-range .ensures)
 
-sizes-requires : tie.Need-sizes-requires
-sizes-requires c κs = fine c
+is-prime-requires : tie.Need-is-prime-requires
+is-prime-requires c κs = let k = ranged c in omega arith
 
 returns-2 : tie.Need-returns-2
-returns-2 c = simp (obeyed (fine (c .before))) (ap given (c .sizes .ensures))
+returns-2 c =
+    let a = c .before .before .before .before .args in
+    refused-row (rowOf (a .kp) (a .j) (a .s) (a .h) (a .w)) (λ o. denied (c .before .is-prime .result) (c .if2 .taken) (c .before .is-prime .ensures) (o .w-prime))
+
+returns-3 : tie.Need-returns-3
+returns-3 c =
+    let a = c .before .before .before .before .before .args in
+    refused-row (rowOf (a .kp) (a .j) (a .s) (a .h) (a .w)) (λ o. omega (arith, o .b-low))
+
+add-l : tie.Need-add-l
+add-l c = let k = ranged (c .before .before .before) in omega arith
+
+add-l-2 : tie.Need-add-l-2
+add-l-2 c = let k = ranged (c .before .before .before) in omega arith
+
+add-if4 : tie.Need-add-if4
+add-if4 c = let k = ranged (c .before .before .before) in omega arith
+
+returns-4 : tie.Need-returns-4
+returns-4 c =
+    let a = c .before .before .before .before .before .before .args in
+    refused-row (rowOf (a .kp) (a .j) (a .s) (a .h) (a .w)) (λ o. omega (arith, o .p-low))
+
+sub-b : tie.Need-sub-b
+sub-b c = search needs
+
+cast-int-div-ceil : tie.Need-cast-int-div-ceil
+cast-int-div-ceil c = search needs
+
+int-div-ceil-requires : tie.Need-int-div-ceil-requires
+int-div-ceil-requires c κs = let k = ranged (c .before .before .before .before) in omega arith
+
+returns-5 : tie.Need-returns-5
+returns-5 c =
+    let a = c .before .before .before .before .before .before .before .before .args in
+    refused-row (rowOf (a .kp) (a .j) (a .s) (a .h) (a .w)) (λ o. omega (arith, o .b-high, c .before .int-div-ceil .ensures))
+
+returns-6 : tie.Need-returns-6
+returns-6 c =
+    let a = c .before .before .before .before .before .before .before .before .before .args in
+    refused-row (rowOf (a .kp) (a .j) (a .s) (a .h) (a .w)) (λ o. omega (arith, o .l-high))
+
+sub-p : tie.Need-sub-p
+sub-p c = search needs
+
+first-prime-requires : tie.Need-first-prime-requires
+first-prime-requires c κs = omega arith
+
+returns-7 : tie.Need-returns-7
+returns-7 c =
+    let a = c .before .before .before .before .before .before .before .before .before .before .args in
+    let tested = c .before .before .before .before .before .before in
+    let o =
+    five (ranged (tested .before .before)) (granted (tested .before .is-prime .result) (tested .if2 .left) (tested .before .is-prime .ensures))
+    (omega arith) (omega arith) (omega (arith, c .before .before .before .int-div-ceil .ensures)) (omega arith) in
+    made-row (rowOf (a .kp) (a .j) (a .s) (a .h) (a .w)) (rw (c .first-prime .ensures)) o
 
 pub check-spec : {M : Type 1} → statement M
-check-spec = tie.close (tie.spec obeys-requires returns sizes-requires returns-2)
+check-spec =
+    tie.close
+    (tie.spec
+    in-range-requires
+    returns
+    is-prime-requires
+    returns-2
+    returns-3
+    add-l
+    add-l-2
+    add-if4
+    returns-4
+    sub-b
+    cast-int-div-ceil
+    int-div-ceil-requires
+    returns-5
+    returns-6
+    sub-p
+    first-prime-requires
+    returns-7)

@@ -14,13 +14,10 @@ use Rattle.builders.proofs.beneath.adding.crossings.Statement.{statemen
 use Rattle.builders.proofs.beneath.adding.crossings.Tie as tie
 
 abbrev Inv-loop : tie.InvT-loop
-Inv-loop ws₀ m s w p b k₀ ws k = (k ≤ w - s) × Added (λ r c. sum k (turn s r c)) ws₀ ws m
+Inv-loop ws₀ m s w b p k₀ ws k = (k ≤ w - s) × Added (λ r c. sum k (turn s r c)) ws₀ ws m
 
 abbrev μ-loop : tie.MeasureT-loop
-μ-loop ws₀ m s w p b k₀ ws k = w - s - k
-
-sub-b : tie.Need-sub-b Inv-loop μ-loop
-sub-b c = search needs
+μ-loop ws₀ m s w b p k₀ ws k = w - s - k
 
 loop-holds : tie.Need-loop-holds Inv-loop μ-loop
 loop-holds c =
@@ -31,7 +28,7 @@ div-a : tie.Need-div-a Inv-loop μ-loop
 div-a c = search needs
 
 add-a : tie.Need-add-a Inv-loop μ-loop
-add-a c = omega (arith, step-high (c .before .before .before .pre .1) (c .before .loop .k) (c .loop-test .taken))
+add-a c = omega (arith, step-high (c .before .before .before .pre .1) (c .before .loop .k) (omega arith))
 
 rem-x : tie.Need-rem-x Inv-loop μ-loop
 rem-x c = search needs
@@ -39,7 +36,7 @@ rem-x c = search needs
 add-y : tie.Need-add-y Inv-loop μ-loop
 add-y c =
     let s = c .before .before .before .args .s in
-    omega (arith, step-high (c .before .before .before .pre .1) (c .before .loop .k) (c .loop-test .taken), mod-lt (c .before .loop .k) {m = s} (omega arith))
+    omega (arith, step-high (c .before .before .before .pre .1) (c .before .loop .k) (omega arith), mod-lt (c .before .loop .k) {m = s} (omega arith))
 
 rem-y : tie.Need-rem-y Inv-loop μ-loop
 rem-y c = search needs
@@ -48,7 +45,7 @@ add-z : tie.Need-add-z Inv-loop μ-loop
 add-z c =
     let s = c .before .before .before .args .s in
     let k = c .before .loop .k in
-    omega (arith, step-high (c .before .before .before .pre .1) k (c .loop-test .taken), mod-lt (k % s + (1 + k / s)) {m = s} (omega arith))
+    omega (arith, step-high (c .before .before .before .pre .1) k (omega arith), mod-lt (k % s + (1 + k / s)) {m = s} (omega arith))
 
 rem-z : tie.Need-rem-z Inv-loop μ-loop
 rem-z c = search needs
@@ -105,7 +102,6 @@ crossings-spec =
     (tie.spec
     Inv-loop
     μ-loop
-    sub-b
     loop-holds
     div-a
     add-a

@@ -10,22 +10,19 @@ use Rattle.builders.proofs.Adding.{sums-none, sums-more, sums-is, lies-
 use Rattle.builders.proofs.beneath.adding.identity.Statement.{statement}
 use Rattle.builders.proofs.beneath.adding.identity.Tie as tie
 
-abbrev term : ℕ → ℕ → ℕ → ℕ → ℕ → ℕ
-term s w r c k = adds r c k (w - s + k)
+abbrev term : ℕ → ℕ → ℕ → ℕ → ℕ
+term b r c k = adds r c k (b + k)
 
 abbrev Inv-loop : tie.InvT-loop
-Inv-loop ws₀ m s w k₀ ws k = (k ≤ s) × Added (λ r c. sum k (term s w r c)) ws₀ ws m
+Inv-loop ws₀ m s b k₀ ws k = (k ≤ s) × Added (λ r c. sum k (term b r c)) ws₀ ws m
 
 abbrev μ-loop : tie.MeasureT-loop
-μ-loop ws₀ m s w k₀ ws k = s - k
+μ-loop ws₀ m s b k₀ ws k = s - k
 
 loop-holds : tie.Need-loop-holds Inv-loop μ-loop
 loop-holds c =
     let a = c .before .args in
-    (omega arith, sums-none (term (a .s) (a .w)) _)
-
-sub-add-one : tie.Need-sub-add-one Inv-loop μ-loop
-sub-add-one c = search needs
+    (omega arith, sums-none (term (a .b)) _)
 
 add-add-one : tie.Need-add-add-one Inv-loop μ-loop
 add-add-one c = search needs
@@ -44,13 +41,13 @@ loop-again : tie.Need-loop-again Inv-loop μ-loop
 loop-again c =
     let l = c .before .before .before .before .before in
     let a = l .before .before .args in
-    (omega arith, sums-more (term (a .s) (a .w)) (l .loop .k) (l .loop .inv .1) (c .before .before .add-one .ensures))
+    (omega arith, sums-more (term (a .b)) (l .loop .k) (l .loop .inv .1) (c .before .before .add-one .ensures))
 
 same-length : tie.Need-same-length Inv-loop μ-loop
 same-length c = c .before .loop .inv .1 .size
 
 returns : tie.Need-returns Inv-loop μ-loop
-returns c = let a = c .before .before .before .args in sums-is (term (a .s) (a .w)) (c .before .loop .inv .1) (omega arith)
+returns c = let a = c .before .before .before .args in sums-is (term (a .b)) (c .before .loop .inv .1) (omega arith)
 
 pub identity-spec : {M : Type 1} → statement M
 identity-spec =
@@ -59,7 +56,6 @@ identity-spec =
     Inv-loop
     μ-loop
     loop-holds
-    sub-add-one
     add-add-one
     add-one-requires
     add-k

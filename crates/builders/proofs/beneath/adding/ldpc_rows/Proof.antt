@@ -22,8 +22,9 @@ same-length c = search needs
 returns : tie.Need-returns
 unfolding ldpc
 returns c =
+    let e = c .before .before .before .before .before .before .before .before .before .before .before .before .before .pre .2 in
     added-then
-    (added-then (c .before .before .before .before .before .before .before .before .before .before .crossings .ensures) (c .before .before .before .before .before .before .identity .ensures) (λ r q. refl))
+    (added-then (c .before .before .before .before .before .before .before .before .before .before .crossings .ensures) (rw e at (c .before .before .before .before .before .before .identity .ensures)) (λ r q. refl))
     (c .before .before .endings .ensures) (λ r q. refl)
 
 pub ldpc-rows-spec : {M : Type 1} → statement M

@@ -13,14 +13,11 @@ use Rattle.constraints.proofs.beneath.ldpc.crossings.Statement.{stateme
 use Rattle.constraints.proofs.beneath.ldpc.crossings.Tie as tie
 
 abbrev Inv-loop : tie.InvT-loop
-Inv-loop out₀ at s w p r b a₀ x₀ c₀ out a x c =
+Inv-loop out₀ at s w b p r a₀ x₀ c₀ out a x c =
     (c ≤ w - s) × (x < s) × (x ≡ c % s) × (a ≡ 1 + c / s) × Written (crossed s r) out₀ out at c
 
 abbrev μ-loop : tie.MeasureT-loop
-μ-loop out₀ at s w p r b a₀ x₀ c₀ out a x c = w - s - c
-
-sub-b : tie.Need-sub-b Inv-loop μ-loop
-sub-b c = search needs
+μ-loop out₀ at s w b p r a₀ x₀ c₀ out a x c = w - s - c
 
 loop-holds : tie.Need-loop-holds Inv-loop μ-loop
 loop-holds c =
@@ -29,14 +26,14 @@ loop-holds c =
 
 step-requires : tie.Need-step-requires Inv-loop μ-loop
 step-requires c κs =
-    omega (arith, step-high (c .before .before .before .pre .0) (c .before .loop .c) (c .loop-test .taken))
+    omega (arith, step-high (c .before .before .before .pre .0) (c .before .loop .c) (omega arith))
 
 step-requires-2 : tie.Need-step-requires-2 Inv-loop μ-loop
 step-requires-2 c κs =
     let a = c .before .before .before .before .args in
     omega (
       arith,
-      step-high (c .before .before .before .before .pre .0) (c .before .before .loop .c) (c .before .loop-test .taken),
+      step-high (c .before .before .before .before .pre .0) (c .before .before .loop .c) (omega arith),
       mod-lt (c .before .before .loop .x + c .before .before .loop .a) {m = a .s} (omega arith),
       c .step .ensures,
     )
@@ -59,7 +56,7 @@ slice-write-out c = search needs
 next-step-requires : tie.Need-next-step-requires Inv-loop μ-loop
 next-step-requires c κs =
     let l = c .before .before .before .before .before .before in
-    omega (arith, step-high (l .before .before .pre .0) (l .loop .c) (c .before .before .before .before .before .loop-test .taken))
+    omega (arith, step-high (l .before .before .pre .0) (l .loop .c) (omega arith))
 
 step-requires-3 : tie.Need-step-requires-3 Inv-loop μ-loop
 step-requires-3 c κs = search needs
@@ -97,7 +94,6 @@ crossings-spec =
     (tie.spec
     Inv-loop
     μ-loop
-    sub-b
     loop-holds
     step-requires
     step-requires-2

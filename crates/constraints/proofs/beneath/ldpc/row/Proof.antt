@@ -13,9 +13,6 @@ use Rattle.constraints.proofs.beneath.ldpc.row.Tie as tie
 crossings-requires : tie.Need-crossings-requires
 crossings-requires c κs = search needs
 
-sub-one-of : tie.Need-sub-one-of
-sub-one-of c = search needs
-
 add-one-of : tie.Need-add-one-of
 add-one-of c = search needs
 
@@ -45,12 +42,13 @@ returns c =
     let start = c .before .before .before .before .before .before .before .before .before .before .before .before .before in
     let a = start .args in
     let e : a .at + a .w ≡ a .at + (a .w - a .s + a .s) = omega arith in
+    let f : a .at + a .b ≡ a .at + (a .w - a .s) = omega arith in
     written-is
     (written-then
     (written-then
     (written-as (c .before .before .before .before .before .before .before .before .before .before .crossings .ensures) (λ k h. sym (ldpc-first (a .s) (a .w) (a .p) (a .r) k h)))
-    (c .before .before .before .before .before .before .one-of .ensures) (identity-is (start .pre .0) (a .r) (start .pre .1)))
-    (written-from (c .before .before .two-of .ensures) e) (λ k h. end-is (start .pre .0) (a .r) (start .pre .1) k))
+    (written-from (c .before .before .before .before .before .before .one-of .ensures) f) (identity-is (start .pre .0) (a .r) (start .pre .2)))
+    (written-from (c .before .before .two-of .ensures) e) (λ k h. end-is (start .pre .0) (a .r) (start .pre .2) k))
     (omega arith)
 
 pub row-spec : {M : Type 1} → statement M
@@ -58,7 +56,6 @@ row-spec =
     tie.close
     (tie.spec
     crossings-requires
-    sub-one-of
     add-one-of
     one-of-requires
     add-two-of

@@ -1,7 +1,6 @@
 -- `delivery::beneath::layout::row` meets its contract.
 -- Assumes nothing.
 use Rattle.delivery.specs.Layout.{rowIn}
-use Rattle.delivery.proofs.Lists.{row-is}
 use borrow.Author.Needs.{needs}
 use Rattle.delivery.proofs.beneath.layout.row.Statement.{statement}
 use Rattle.delivery.proofs.beneath.layout.row.Tie as tie
@@ -21,9 +20,14 @@ word-requires-4 c κs = search needs
 word-requires-5 : tie.Need-word-requires-5
 word-requires-5 c κs = search needs
 
+check-requires : tie.Need-check-requires
+check-requires c κs = search needs
+
 returns : tie.Need-returns
 unfolding rowIn
-returns c = row-is (c .before .before .before .before .word .ensures) (c .before .before .before .word2 .ensures) (c .before .before .word3 .ensures) (c .before .word4 .ensures) (c .word5 .ensures)
+returns c =
+    rw (c .before .before .before .before .before .word .ensures, c .before .before .before .before .word2 .ensures, c .before .before .before .word3 .ensures, c .before .before .word4 .ensures, c .before .word5 .ensures) at
+    (c .check .ensures)
 
 pub row-spec : {M : Type 1} → statement M
 row-spec =
@@ -34,4 +38,5 @@ row-spec =
     word-requires-3
     word-requires-4
     word-requires-5
+    check-requires
     returns)

@@ -1,7 +1,10 @@
 -- `delivery::beneath::screen::screen_rest` meets its contract.
 -- Assumes nothing.
+use mathlib.Core.Path.{_≡_}
 use native.Mathlib.Omega.{arith}
-use Rattle.delivery.proofs.Screening.{all-passed, row-sound, row-stopped, row-passed}
+use Rattle.headers.specs.Row.{Obeys}
+use Rattle.delivery.specs.Layout.{rowIn}
+use Rattle.delivery.proofs.Screening.{RowSound, all-passed, row-broken, row-read, row-refused, row-sound, row-stopped, row-passed}
 use borrow.Author.Needs.{needs}
 use Rattle.delivery.proofs.beneath.screen.screen_rest.Statement.{statement}
 use Rattle.delivery.proofs.beneath.screen.screen_rest.Tie as tie
@@ -9,46 +12,71 @@ use Rattle.delivery.proofs.beneath.screen.screen_rest.Tie as tie
 row-requires : tie.Need-row-requires
 row-requires c κs = search needs
 
-screen-row-requires : tie.Need-screen-row-requires
-screen-row-requires c κs = search needs
+enum-known-r : tie.Need-enum-known-r
+enum-known-r c = search needs
 
 enum-told : tie.Need-enum-told
 enum-told c = search needs
 
+returns : tie.Need-returns
+returns c =
+    let a = c .before .before .before .before .args in
+    let read = c .before .before in
+    row-refused (a .bytes .now) (a .k) (a .t) (row-broken (a .bytes .now) (read .row .result) (read .row .ensures) _ (c .enum-told .given .1))
+
+-- past the check the record obeys, and is that of the delivery
+own : (c : tie.After-known-told) → let r = c .before .r .given .0 .0 in (Obeys r) × (r ≡ rowIn (c .before .before .before .before .before .args .bytes .now))
+own c = row-read (c .before .before .before .before .before .args .bytes .now) (c .before .before .before .row .result) (c .before .before .before .row .ensures) _ (c .before .r .given .1)
+
+screen-row-requires : tie.Need-screen-row-requires
+screen-row-requires c κs = own c .0
+
 enum-told-2 : tie.Need-enum-told-2
 enum-told-2 c = search needs
 
-returns : tie.Need-returns
-returns c =
-    let s = c .before .before .before .before .before .args in
-    row-stopped (s .bytes .now) (c .before .before .before .row .result) (c .before .before .before .row .ensures) (s .k) (s .t) (c .before .before .screen-row .result) (c .before .before .screen-row .ensures) _ (c .enum-told2 .given .1)
-
-cast-screen-packets : tie.Need-cast-screen-packets
-cast-screen-packets c =
-    let s = c .before .before .before .before .before .args in
-    let l = row-sound (c .before .before .before .row .result) (s .k) (s .t) (all-passed (c .before .before .screen-row .result) (c .before .before .screen-row .ensures) (c .enum-told .given .1)) in
-    omega (arith, l .k-high, l .rules .ranges .kp-16)
-
-screen-packets-requires : tie.Need-screen-packets-requires
-screen-packets-requires c κs =
-    let s = c .before .before .before .before .before .args in
-    let l = row-sound (c .before .before .before .row .result) (s .k) (s .t) (all-passed (c .before .before .screen-row .result) (c .before .before .screen-row .ensures) (c .enum-told .given .1)) in
-    (l .rules, l .k-low, l .k-high, l .l-high, omega (arith, l .t-high))
+enum-told-3 : tie.Need-enum-told-3
+enum-told-3 c = search needs
 
 returns-2 : tie.Need-returns-2
 returns-2 c =
-    let s = c .before .before .before .before .before .before .args in
-    row-passed (s .bytes .now) (c .before .before .before .before .row .result) (c .before .before .before .before .row .ensures) (s .k) (s .t) (c .before .before .before .screen-row .result) (c .before .before .before .screen-row .ensures) (c .before .enum-told .given .1) (c .screen-packets .ensures)
+    let a = c .before .before .before .before .before .before .before .before .args in
+    let o = own (c .before .before .before) in
+    let s = c .before .before in
+    row-stopped (a .bytes .now) (c .before .before .before .before .r .given .0 .0) (o .1) (a .k) (a .t) (s .screen-row .result) (s .screen-row .ensures) _ (c .enum-told3 .given .1)
+
+-- past the screen of the row
+passed : (c : tie.After-enum-told2) → let a = c .before .before .before .before .before .before .before .before .args in RowSound (c .before .before .before .before .r .given .0 .0) (a .k) (a .t)
+passed c =
+    let a = c .before .before .before .before .before .before .before .before .args in
+    let s = c .before .before in
+    row-sound (c .before .before .before .before .r .given .0 .0) (a .k) (a .t) (all-passed (s .screen-row .result) (s .screen-row .ensures) (c .enum-told2 .given .1))
+
+cast-screen-packets : tie.Need-cast-screen-packets
+cast-screen-packets c = let l = passed c in omega (arith, l .k-high, l .rules .ranges .kp-16)
+
+screen-packets-requires : tie.Need-screen-packets-requires
+screen-packets-requires c κs = let l = passed c in (l .rules, l .k-low, l .k-high, l .l-high, omega (arith, l .t-high))
+
+returns-3 : tie.Need-returns-3
+returns-3 c =
+    let a = c .before .before .before .before .before .before .before .before .before .args in
+    let o = own (c .before .before .before .before) in
+    let s = c .before .before .before in
+    row-passed (a .bytes .now) (c .before .before .before .before .before .r .given .0 .0) (o .1) (a .k) (a .t) (s .screen-row .result) (s .screen-row .ensures) (c .before .enum-told2 .given .1)
+    (c .screen-packets .ensures)
 
 pub screen-rest-spec : {M : Type 1} → statement M
 screen-rest-spec =
     tie.close
     (tie.spec
     row-requires
-    screen-row-requires
+    enum-known-r
     enum-told
-    enum-told-2
     returns
+    screen-row-requires
+    enum-told-2
+    enum-told-3
+    returns-2
     cast-screen-packets
     screen-packets-requires
-    returns-2)
+    returns-3)

@@ -12,9 +12,6 @@ use Rattle.solver.proofs.beneath.call.run.Tie as tie
 m-requires : tie.Need-m-requires
 m-requires c κs = let q = c .before .before .before .before .before .before .pre .fillable .sendable in (q .rules, q .k-high, q .few)
 
-l-requires : tie.Need-l-requires
-l-requires c κs = search needs
-
 cast-l : tie.Need-cast-l
 cast-l c = search needs
 
@@ -26,7 +23,7 @@ solve-stored-requires c κs =
     let l = c .before .before .before .before .before .before .before .before .before .before in
     let s = l .before .before .before .before .before .before .before .before in
     let o = s .pre .fillable .sendable .rules in
-    rw (l .before .m .ensures, l .l .ensures) (search needs)
+    rw (l .before .m .ensures, o .derived .l-fits) (search needs)
 
 same-length : tie.Need-same-length
 same-length c = search needs
@@ -43,7 +40,7 @@ returns c =
     let l = y .before .before .before .before .before .before .before .before .before .before .before in
     let s = l .before .before .before .before .before .before .before .before in
     let a = s .args in
-    let e = rw (l .before .m .ensures, l .l .ensures) at (y .solve-stored .ensures) in
+    let e = rw (l .before .m .ensures, s .pre .fillable .sendable .rules .derived .l-fits) at (y .solve-stored .ensures) in
     let f = y .before .before .before .before .before .before .before .before .fill .ensures in (
       e .answer (systemOf (a .r) (a .tables .now) (a .k) (a .t) (a .esis .now) (a .symbols .now))
           (octet-symbols (hdpcRows (a .tables .now) (a .r)) (a .r) (a .tables .now) (a .k) (a .t) (a .esis .now) (a .symbols .now)
@@ -53,4 +50,4 @@ returns c =
     )
 
 pub run-spec : {M : Type 1} → statement M
-run-spec = tie.close (tie.spec m-requires l-requires cast-l fill-requires solve-stored-requires same-length same-length-2 same-length-3 returns)
+run-spec = tie.close (tie.spec m-requires cast-l fill-requires solve-stored-requires same-length same-length-2 same-length-3 returns)
