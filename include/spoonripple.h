@@ -27,11 +27,19 @@
  *   enough for such blocks, one with 320 KiB for all; 128 KiB (the default of musl) is not. bindings/c/stack reads the number of
  *   each call from the archive, and bindings/c/frames.c measures that of spoonripple_solve.
  *
+ * The record of a row
+ *   A parameter row is K', J, S, H, W (5.6 of the RFC, Table 2). Its record is nine numbers: these five and the four that follow
+ *   from them, L = K' + S + H, P = L - W, B = W - S and P1, the smallest prime not below P. spoonripple_row_check alone makes
+ *   it, of the five. A caller works none of the four out but reads them off: row[5] is L, row[6] P, row[7] B, row[8] P1.
+ *   Every other call with a row takes the record, as `k, j, s, h, w, l, p, b, p1`, and verifies it: 4 where it is not one that
+ *   spoonripple_row_check makes; bindings/c/records.c tries that of each. SPOONRIPPLE_ROW spreads it into the nine arguments:
+ *       uint64_t row[9];
+ *       uint32_t code = spoonripple_row_check(10, 254, 7, 10, 17, row, 9);
+ *       if (code == SPOONRIPPLE_DONE) code = spoonripple_isi(SPOONRIPPLE_ROW(row), 10, 12, out, 1);
+ *
  * Words
- *   K source symbols of T octets make a block. `k, j, s, h, w` is a parameter row K', J, S, H, W (5.6 of the RFC, Table 2), of
- *   which L = K' + S + H, P = L - W, B = W - S and P1, the smallest prime not below P. `tables` are the random numbers V0, V1,
- *   V2, V3 (5.5) one after the other, 1,024 in all. Row and tables are lent: any that are not refused are taken.
- *   bindings/data has the published ones, ready for #include.
+ *   K source symbols of T octets make a block. `tables` are the random numbers V0, V1, V2, V3 (5.5) one after the other, 1,024 in
+ *   all. Row and tables are lent: any that are not refused are taken. bindings/data has the published ones, ready for #include.
  *   An ESI counts what was sent, an ISI counts rows of the matrix; spoonripple_isi makes the second from the first.
  *   a..b are the numbers from a to b, both included; for rows, columns and lists "from start to end" leaves end out.
  */
@@ -52,7 +60,7 @@ extern "C" {
 #define SPOONRIPPLE_OUT_OF_RANGE 2
 /* Transmission information breaks its rules. */
 #define SPOONRIPPLE_BAD_TRANSMISSION 3
-/* The parameter row breaks its rules. */
+/* The parameter row breaks its rules, or L, P, B or P1 of its record is not that of the row. */
 #define SPOONRIPPLE_BAD_ROW 4
 /* The random tables are not 1,024 numbers. */
 #define SPOONRIPPLE_BAD_TABLES 5
@@ -70,6 +78,11 @@ extern "C" {
 /* No refusals: what spoonripple_solve answers besides. */
 #define SPOONRIPPLE_CONTRADICTION 100
 #define SPOONRIPPLE_OPEN 101
+
+/* The record that spoonripple_row_check wrote to uint64_t row[9], as the nine arguments of a call. */
+#define SPOONRIPPLE_ROW(row)                                                                            \
+    (uint32_t)(row)[0], (uint32_t)(row)[1], (uint32_t)(row)[2], (uint32_t)(row)[3], (uint32_t)(row)[4], \
+    (uint32_t)(row)[5], (uint32_t)(row)[6], (uint32_t)(row)[7], (uint32_t)(row)[8]
 
 /* ---- Octets (RFC 6330, 5.7.2) ---- */
 
@@ -156,20 +169,21 @@ uint32_t spoonripple_rand(const uint32_t *tables, size_t tables_len, uint32_t y,
  * Refusals: 2 (v of 2^20 or more), 2 (w below 2), 8 (out has no place). Writes out[0]. */
 uint32_t spoonripple_deg(uint32_t v, uint32_t w, uint64_t *out, size_t out_len);
 
-/* Checks a parameter row and gives L, P, B, P1. The rules: each number below 65,536, K' in 1..56,403, S odd and at least 3, H
- * in 2..255, W prime, B at least 1, P at least 3, ceil(B/S) below S, L at most 65,535.
- * Refusals: 4 (a rule is broken), 8 (out below 4 places). Writes out[0] to out[3]. */
+/* Checks a parameter row and makes its record: K', J, S, H, W, L, P, B, P1. The rules: each number below 65,536, K' in 1..56,403,
+ * S odd and at least 3, H in 2..255, W prime, B at least 1, P at least 3, ceil(B/S) below S, L at most 65,535. The calls that
+ * take a record add one more, and that last: L, P, B and P1 are what this call makes of the five.
+ * Refusals: 4 (a rule is broken), 8 (out below 9 places). Writes out[0] to out[8]. */
 uint32_t spoonripple_row_check(uint32_t k, uint32_t j, uint32_t s, uint32_t h, uint32_t w, uint64_t *out, size_t out_len);
 
 /* The ISI of an ESI in a block of count source symbols: esi where it is below count, else esi + K' - count.
  * Refusals: 4 (the row), 9 (esi of 2^24 or more), 9 (count not in 1..K'), 8 (out has no place). Writes out[0]. */
-uint32_t spoonripple_isi(uint32_t k, uint32_t j, uint32_t s, uint32_t h, uint32_t w, uint32_t count, uint32_t esi,
-                         uint64_t *out, size_t out_len);
+uint32_t spoonripple_isi(uint32_t k, uint32_t j, uint32_t s, uint32_t h, uint32_t w, uint32_t l, uint32_t p, uint32_t b, uint32_t p1,
+                         uint32_t count, uint32_t esi, uint64_t *out, size_t out_len);
 
 /* The tuple of an ISI of any 32 bits (5.3.5.4): d, a, b, d1, a1, b1. An ESI goes through spoonripple_isi first.
  * Refusals: 4 (the row), 5 (the tables), 8 (out below 6 places). Writes out[0] to out[5]. */
-uint32_t spoonripple_tuple(uint32_t k, uint32_t j, uint32_t s, uint32_t h, uint32_t w, const uint32_t *tables, size_t tables_len,
-                           uint32_t isi, uint64_t *out, size_t out_len);
+uint32_t spoonripple_tuple(uint32_t k, uint32_t j, uint32_t s, uint32_t h, uint32_t w, uint32_t l, uint32_t p, uint32_t b, uint32_t p1,
+                           const uint32_t *tables, size_t tables_len, uint32_t isi, uint64_t *out, size_t out_len);
 
 /* ---- Symbols in lent bytes ----
  * count symbols of t bytes stand at the front of store, one after the other; t may be 0. An order of length 0 is none; one of
@@ -260,28 +274,30 @@ uint32_t spoonripple_matrix_resize(uint64_t *words, size_t words_len, size_t hei
 /* ---- The linear system (RFC 6330, 5.3.3.3 and 5.3.5.3) ---- */
 
 /* The walk of a tuple: the d + d1 intermediate symbols that it adds up, in walk order.
- * Refusals: 4 (the row), 2 (the tuple: d not in 1..30 or above W - 2, a not in 1..W - 1, b not below W, d1 not 2 or 3, a1 not in
- * 1..P1 - 1, b1 not below P1), 8 (list below d + d1 places). Writes the first d + d1 places of list. */
-uint32_t spoonripple_enc_indices(uint32_t k, uint32_t j, uint32_t s, uint32_t h, uint32_t w,
-                                 uint32_t d, uint32_t a, uint32_t b, uint32_t d1, uint32_t a1, uint32_t b1, uint32_t *list, size_t list_len);
+ * Refusals: 4 (the row), 2 (the tuple: d not in 1..30 or above W - 2, a not in 1..W - 1, tuple_b not below W, d1 not 2 or 3,
+ * a1 not in 1..P1 - 1, b1 not below P1), 8 (list below d + d1 places). Writes the first d + d1 places of list. */
+uint32_t spoonripple_enc_indices(uint32_t k, uint32_t j, uint32_t s, uint32_t h, uint32_t w, uint32_t l, uint32_t p, uint32_t b, uint32_t p1,
+                                 uint32_t d, uint32_t a, uint32_t tuple_b, uint32_t d1, uint32_t a1, uint32_t b1, uint32_t *list, size_t list_len);
 
 /* The HDPC rows: H rows of L octets, row after row.
  * Refusals: 4 (the row), 5 (the tables), 8 (store below H * L octets). Writes the first H * L octets of store. */
-uint32_t spoonripple_hdpc_rows(uint32_t k, uint32_t j, uint32_t s, uint32_t h, uint32_t w, const uint32_t *tables, size_t tables_len,
-                               uint8_t *store, size_t store_len);
+uint32_t spoonripple_hdpc_rows(uint32_t k, uint32_t j, uint32_t s, uint32_t h, uint32_t w, uint32_t l, uint32_t p, uint32_t b, uint32_t p1,
+                               const uint32_t *tables, size_t tables_len, uint8_t *store, size_t store_len);
 
 /* The constraint matrix as bits, laid out as above with width L: S LDPC rows, H rows of 0 in the place of the HDPC rows, and one
  * row for each ISI of any 32 bits; stray bits are 0.
  * Refusals: 4 (the row), 5 (the tables), 9 (below K' ids), 9 (more than 65,535), 8 (words below the matrix).
  * Writes the (S + H + isis_len) * ceil(L / 64) words of the matrix. */
-uint32_t spoonripple_constraint_matrix(uint32_t k, uint32_t j, uint32_t s, uint32_t h, uint32_t w, const uint32_t *tables, size_t tables_len,
-                                       const uint32_t *isis, size_t isis_len, uint64_t *words, size_t words_len);
+uint32_t spoonripple_constraint_matrix(uint32_t k, uint32_t j, uint32_t s, uint32_t h, uint32_t w, uint32_t l, uint32_t p, uint32_t b, uint32_t p1,
+                                       const uint32_t *tables, size_t tables_len, const uint32_t *isis, size_t isis_len,
+                                       uint64_t *words, size_t words_len);
 
 /* The same without the H rows of 0.
  * Refusals: 4 (the row), 5 (the tables), 9 (below K' + H ids), 9 (more than 65,535), 8 (words below the matrix).
  * Writes the (S + isis_len) * ceil(L / 64) words of the matrix. */
-uint32_t spoonripple_constraint_matrix_no_hdpc(uint32_t k, uint32_t j, uint32_t s, uint32_t h, uint32_t w, const uint32_t *tables, size_t tables_len,
-                                               const uint32_t *isis, size_t isis_len, uint64_t *words, size_t words_len);
+uint32_t spoonripple_constraint_matrix_no_hdpc(uint32_t k, uint32_t j, uint32_t s, uint32_t h, uint32_t w, uint32_t l, uint32_t p, uint32_t b, uint32_t p1,
+                                               const uint32_t *tables, size_t tables_len, const uint32_t *isis, size_t isis_len,
+                                               uint64_t *words, size_t words_len);
 
 /* ---- A block: encoding, solving, display ---- */
 
@@ -289,9 +305,9 @@ uint32_t spoonripple_constraint_matrix_no_hdpc(uint32_t k, uint32_t j, uint32_t 
  * ESI below count that is a source symbol.
  * Refusals: 4 (the row), 5 (the tables), 9 (count not in 1..K'), 9 (esi of 2^24 or more), 10 (t is 0), 8 (intermediates below
  * L * t octets), 8 (out below t octets), 8 (a walk of more than 32 places, which no ESI has). Writes the first t octets of out. */
-uint32_t spoonripple_encode(uint32_t k, uint32_t j, uint32_t s, uint32_t h, uint32_t w, const uint32_t *tables, size_t tables_len,
-                            uint32_t count, uint16_t t, uint32_t esi, const uint8_t *intermediates, size_t intermediates_len,
-                            uint8_t *out, size_t out_len);
+uint32_t spoonripple_encode(uint32_t k, uint32_t j, uint32_t s, uint32_t h, uint32_t w, uint32_t l, uint32_t p, uint32_t b, uint32_t p1,
+                            const uint32_t *tables, size_t tables_len, uint32_t count, uint16_t t, uint32_t esi,
+                            const uint8_t *intermediates, size_t intermediates_len, uint8_t *out, size_t out_len);
 
 /* The intermediate symbols of a block of count source symbols of t octets, out of what arrived: n = esis_len ESIs in any order,
  * of which one may come twice, and their symbols in the same order. None is taken too, and open.
@@ -304,12 +320,13 @@ uint32_t spoonripple_encode(uint32_t k, uint32_t j, uint32_t s, uint32_t h, uint
  *                              arrivals are needed
  * or a refusal: 4 (the row), 5 (the tables), 9 (an ESI of 2^24 or more), 9 (count not in 1..K'), 9 (more than 65,535 arrivals),
  * 10 (t is 0), 10 (symbols_len is not n * t), 8 (rows, values or out too short), 8 (shortfall has no place).
- * Lent: rows and values are scratch of any content, M * L and M * t octets, where M = S + H + K' - count + n; out is L * t octets.
+ * Lent: rows and values are scratch of any content, M * L and M * t octets, where M = L - count + n; out is L * t octets.
  * Writes: after each answer that is no refusal the first M * L octets of rows and M * t of values are 0. The first L * t octets of
  * out are written only with SPOONRIPPLE_DONE, shortfall[0] only with SPOONRIPPLE_OPEN.
  * Stack: at most 16 KiB where L and t are at most 2,048 and where it refuses, at most 300 KiB else. */
-uint32_t spoonripple_solve(uint32_t k, uint32_t j, uint32_t s, uint32_t h, uint32_t w, const uint32_t *tables, size_t tables_len,
-                           uint32_t count, uint16_t t, const uint32_t *esis, size_t esis_len, const uint8_t *symbols, size_t symbols_len,
+uint32_t spoonripple_solve(uint32_t k, uint32_t j, uint32_t s, uint32_t h, uint32_t w, uint32_t l, uint32_t p, uint32_t b, uint32_t p1,
+                           const uint32_t *tables, size_t tables_len, uint32_t count, uint16_t t,
+                           const uint32_t *esis, size_t esis_len, const uint8_t *symbols, size_t symbols_len,
                            uint8_t *rows, size_t rows_len, uint8_t *values, size_t values_len, uint8_t *out, size_t out_len,
                            uint64_t *shortfall, size_t shortfall_len);
 

@@ -38,9 +38,10 @@ static const struct call {
     {first_large, 2049, 0, 0, SPOONRIPPLE_OPEN, LARGE},
 };
 
-/* A call with its stores, and where its stack begins. */
+/* A call with its row's record and its stores, and where its stack begins. */
 struct run {
     const struct call *call;
+    uint64_t record[9];
     uint32_t *esis, code;
     uint8_t *symbols, *rows, *values, *out, *top;
     size_t n, l, m;
@@ -57,12 +58,11 @@ static void *room(size_t octets) {
 
 static void *made(void *given) {
     struct run *r = given;
-    const uint32_t *row = r->call->row;
     uint16_t t = r->call->t;
     uint64_t shortfall[1];
     uint8_t here;
     r->top = &here;
-    r->code = spoonripple_solve(row[0], row[1], row[2], row[3], row[4], tables, 1024, row[0], t, r->esis, r->n, r->symbols, r->n * t,
+    r->code = spoonripple_solve(SPOONRIPPLE_ROW(r->record), tables, 1024, r->call->row[0], t, r->esis, r->n, r->symbols, r->n * t,
                                 r->rows, r->m * r->l, r->values, r->m * t, r->out, r->l * t, shortfall, 1);
     return NULL;
 }
@@ -90,8 +90,10 @@ int main(void) {
     if (posix_memalign(&stack, 1 << 16, STACK) != 0) return fputs("no memory\n", stderr), 2;
     for (size_t i = 0; i < sizeof calls / sizeof *calls; i++) {
         const struct call *c = calls + i;
-        struct run r = {.call = c, .n = c->n + (size_t)c->damaged, .l = c->row[0] + c->row[2] + c->row[3]};
-        r.m = r.l - c->row[0] + r.n;
+        const uint32_t *row = c->row;
+        struct run r = {.call = c, .n = c->n + (size_t)c->damaged};
+        if (spoonripple_row_check(row[0], row[1], row[2], row[3], row[4], r.record, 9) != SPOONRIPPLE_DONE) return fputs("a row is refused\n", stderr), 2;
+        r.l = r.record[5], r.m = r.l - row[0] + r.n;
         r.esis = room(r.n * sizeof *r.esis), r.symbols = room(r.n * c->t);
         r.rows = room(r.m * r.l), r.values = room(r.m * c->t), r.out = room(r.l * c->t);
         for (size_t e = 0; e < c->n; e++) r.esis[e] = (uint32_t)e;

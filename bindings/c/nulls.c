@@ -6,8 +6,10 @@
 #include <stdio.h>
 #include <string.h>
 
-/* K', J, S, H, W of the first row of Table 2: L is 27. */
-#define ROW 10, 254, 7, 10, 17
+/* K', J, S, H, W of the first row of Table 2, and the record that the check makes of it: L is 27. */
+#define FIVE 10, 254, 7, 10, 17
+#define ROW SPOONRIPPLE_ROW(row)
+static uint64_t row[9];
 enum { L = 27, T = 4, M = 17 };
 
 static const uint32_t published[1024] = {
@@ -107,7 +109,7 @@ static void generators(void) {
     CASE(5, rand(NONE, 5, 6, 7, OUT));
     CASE(8, rand(TABLES, 5, 6, 7, NONE));
     CASE(8, deg(5, 17, NONE));
-    CASE(8, row_check(ROW, NONE));
+    CASE(8, row_check(FIVE, NONE));
     CASE(4, row_check(0, 0, 0, 0, 0, NONE));
     CASE(8, isi(ROW, 10, 3, NONE));
     CASE(5, tuple(ROW, NONE, 3, OUT));
@@ -222,6 +224,7 @@ static void blocks(void) {
 }
 
 int main(void) {
+    if (spoonripple_row_check(FIVE, row, 9) != SPOONRIPPLE_DONE || row[5] != L) return fputs("the row has no such record\n", stderr), 2;
     octets(), packets(), generators(), slabs(), matrices(), systems(), blocks();
     printf("null pointers of length 0: %u cases, %u faults\n", cases, faults);
     return faults != 0;

@@ -34,7 +34,7 @@ static void *room(size_t octets) {
 }
 
 int main(int argc, char **argv) {
-    uint64_t info[5], size[4], packet[4], shortfall[1];
+    uint64_t info[5], row[9], packet[4], shortfall[1];
     size_t came = (sizeof delivery - 12) / 8, n = argc > 1 ? strtoul(argv[1], NULL, 10) : came;
     if (n > came) n = came;
 
@@ -49,7 +49,8 @@ int main(int argc, char **argv) {
     uint32_t count = (uint32_t)((length + t - 1) / t);
     const uint32_t *r = rows_of_table_2;
     while (r[0] < count) r += 5;
-    stop_at(spoonripple_row_check(r[0], r[1], r[2], r[3], r[4], size, 4), "row");
+    /* The check makes the row's record: whatever is asked of the row, L too, is read off it. */
+    stop_at(spoonripple_row_check(r[0], r[1], r[2], r[3], r[4], row, 9), "row");
 
     /* The packets in the order in which they came: ESIs in one store, symbols in the other. */
     uint32_t *esis = room(n * sizeof *esis);
@@ -62,9 +63,9 @@ int main(int argc, char **argv) {
     }
 
     /* Each store is memory of its own: what is lent for writing may overlap nothing. */
-    size_t l = size[0], m = l - count + n;
+    size_t l = row[5], m = l - count + n;
     uint8_t *rows = room(m * l), *values = room(m * t), *set = room(l * t), *source = room((size_t)count * t);
-    uint32_t code = spoonripple_solve(r[0], r[1], r[2], r[3], r[4], tables, 1024, count, t, esis, n, symbols, n * t,
+    uint32_t code = spoonripple_solve(SPOONRIPPLE_ROW(row), tables, 1024, count, t, esis, n, symbols, n * t,
                                       rows, m * l, values, m * t, set, l * t, shortfall, 1);
     /* Words are no bytes of the object: they go to standard error. */
     if (code == SPOONRIPPLE_OPEN) return fprintf(stderr, "open, %u more independent packets at least\n", (unsigned)shortfall[0]), 1;
@@ -73,7 +74,7 @@ int main(int argc, char **argv) {
 
     /* The source symbols are the encodings of ESI 0 to K - 1; the last one ends in padding past F. */
     for (uint32_t esi = 0; esi < count; esi++)
-        stop_at(spoonripple_encode(r[0], r[1], r[2], r[3], r[4], tables, 1024, count, t, esi, set, l * t, source + (size_t)esi * t, t), "encode");
+        stop_at(spoonripple_encode(SPOONRIPPLE_ROW(row), tables, 1024, count, t, esi, set, l * t, source + (size_t)esi * t, t), "encode");
     fwrite(source, 1, length, stdout);
     return 0;
 }

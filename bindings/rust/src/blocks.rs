@@ -48,7 +48,7 @@ pub struct Arrivals<'a> {
 /// How many octets [`solve`] asks of its three stores. A longer store is taken, and what lies past stays.
 #[derive(Clone, Copy, Debug, PartialEq, Eq)]
 pub struct Room {
-    /// M · L octets, where M = S + H + K' - K + n.
+    /// M · L octets, where M = L - K + n.
     pub rows: usize,
     /// M · T octets.
     pub values: usize,
@@ -59,7 +59,7 @@ pub struct Room {
 impl Room {
     /// What a call with these arrivals asks.
     pub fn of(row: Row, arrivals: Arrivals) -> Room {
-        let (l, t) = (row.sizes().l as usize, usize::from(arrivals.t));
+        let (l, t) = (row.l() as usize, usize::from(arrivals.t));
         let m = l.saturating_sub(arrivals.count as usize) + arrivals.esis.len();
         Room { rows: m * l, values: m * t, out: l * t }
     }
@@ -79,14 +79,14 @@ pub struct Stores<'a> {
 /// The intermediate symbols of a block, out of what arrived. Refused: 9 where K is not in 1..K', an ESI is 2^24 or more, or more than 65,535 arrived;
 /// 10 where T is 0 or the symbols are not T octets for each ESI; 8 where a store is too short. No arrivals are taken, and open.
 pub fn solve(row: Row, tables: Tables, arrivals: Arrivals, stores: Stores) -> Result<Verdict, Refusal> {
-    let ([k, j, s, h, w], tables) = (row.numbers(), tables.numbers());
+    let ([k, j, s, h, w, l, p, b, p1], tables) = (row.numbers(), tables.numbers());
     let Arrivals { count, t, esis, symbols } = arrivals;
     let Stores { rows, values, out } = stores;
     let mut shortfall = [0];
     #[rustfmt::skip]
     let code = unsafe {
         sys::spoonripple_solve(
-            k, j, s, h, w, tables.as_ptr(), tables.len(), count, t, esis.as_ptr(), esis.len(), symbols.as_ptr(), symbols.len(),
+            k, j, s, h, w, l, p, b, p1, tables.as_ptr(), tables.len(), count, t, esis.as_ptr(), esis.len(), symbols.as_ptr(), symbols.len(),
             rows.as_mut_ptr(), rows.len(), values.as_mut_ptr(), values.len(), out.as_mut_ptr(), out.len(), shortfall.as_mut_ptr(), shortfall.len(),
         )
     };
@@ -100,9 +100,9 @@ pub fn solve(row: Row, tables: Tables, arrivals: Arrivals, stores: Stores) -> Re
 /// The symbol of an ESI of a block of `count` source symbols of t octets, from its L · t octets of intermediate symbols: t octets at the front of `out`, of
 /// which the rest stays. Refused: 9 where count is not in 1..K' or the ESI is 2^24 or more; 10 where t is 0; 8 where `intermediates` or `out` is too short.
 pub fn encode(row: Row, tables: Tables, count: u32, t: u16, esi: u32, intermediates: &[u8], out: &mut [u8]) -> Result<(), Refusal> {
-    let ([k, j, s, h, w], tables) = (row.numbers(), tables.numbers());
+    let ([k, j, s, h, w, l, p, b, p1], tables) = (row.numbers(), tables.numbers());
     let (from, len) = (intermediates.as_ptr(), intermediates.len());
-    done(unsafe { sys::spoonripple_encode(k, j, s, h, w, tables.as_ptr(), tables.len(), count, t, esi, from, len, out.as_mut_ptr(), out.len()) })
+    done(unsafe { sys::spoonripple_encode(k, j, s, h, w, l, p, b, p1, tables.as_ptr(), tables.len(), count, t, esi, from, len, out.as_mut_ptr(), out.len()) })
 }
 
 /// The T octets of a source symbol, and where they were found.

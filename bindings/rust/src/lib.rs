@@ -7,6 +7,7 @@
 //! - **No overlap.** C cannot test that what is lent for writing overlaps nothing else; here a `&mut` slice cannot.
 //! - **No numbers for answers.** Refusals are a [`Refusal`], what the solver says is a [`Verdict`].
 //! - **Row and tables are checked once,** when a [`Row`] and [`Tables`] are made, so that refusals 4 and 5 come from there alone.
+//! - **One place for the row's numbers.** L, P, B and P1 are read off a [`Row`], as the archive's check made them; nothing here works them out.
 //!
 //! A refusal changes nothing that was lent.
 //!

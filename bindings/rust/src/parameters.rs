@@ -40,32 +40,24 @@ const fn rows(numbers: [u32; 5 * 477]) -> [[u32; 5]; 477] {
     all
 }
 
-/// A parameter row K', J, S, H, W that keeps the rules of `docs/01-scope.md`: the proved check has taken it.
+/// The record of a parameter row: K', J, S, H, W, which keep the rules of `docs/01-scope.md`, and L, P, B, P1, which follow from them.
+///
+/// The proved check makes it, and nothing else does: what is read off here, on a status page too, is what the solver uses.
+///
+/// ```compile_fail,E0451
+/// let row = spoonripple::Row { numbers: [10, 254, 7, 10, 17, 27, 10, 10, 11] };
+/// ```
 #[derive(Clone, Copy, Debug, PartialEq, Eq)]
 pub struct Row {
-    numbers: [u32; 5],
-    sizes: Sizes,
-}
-
-/// What follows from a row.
-#[derive(Clone, Copy, Debug, PartialEq, Eq)]
-pub struct Sizes {
-    /// L = K' + S + H: how many intermediate symbols.
-    pub l: u32,
-    /// P = L - W: how many of them are PI symbols.
-    pub p: u32,
-    /// B = W - S: how many LT symbols are not LDPC symbols.
-    pub b: u32,
-    /// P1: the smallest prime not below P.
-    pub p1: u32,
+    /// As the check gave them.
+    numbers: [u32; 9],
 }
 
 impl Row {
-    /// The row K', J, S, H, W. Refused: 4 where it breaks a rule.
+    /// The record of the row K', J, S, H, W. Refused: 4 where it breaks a rule.
     pub fn new([k, j, s, h, w]: [u32; 5]) -> Result<Row, Refusal> {
-        let sizes = values(|out, room| unsafe { sys::spoonripple_row_check(k, j, s, h, w, out, room) })?;
-        let [l, p, b, p1] = sizes.map(|x| x as u32);
-        Ok(Row { numbers: [k, j, s, h, w], sizes: Sizes { l, p, b, p1 } })
+        let record = values(|out, room| unsafe { sys::spoonripple_row_check(k, j, s, h, w, out, room) })?;
+        Ok(Row { numbers: record.map(|x| x as u32) })
     }
 
     /// The published row for a block of `count` source symbols: the one with the smallest K' that is not below. Refused: 9 where count is not
@@ -75,14 +67,34 @@ impl Row {
         Row::new(*row.ok_or(Refusal::BadCount)?)
     }
 
-    /// K', J, S, H, W.
-    pub fn numbers(self) -> [u32; 5] {
+    /// K', J, S, H, W, L, P, B, P1.
+    pub fn numbers(self) -> [u32; 9] {
         self.numbers
     }
 
-    /// L, P, B, P1.
-    pub fn sizes(self) -> Sizes {
-        self.sizes
+    /// K': how many source symbols a block has with its padding.
+    pub fn k_prime(self) -> u32 {
+        self.numbers[0]
+    }
+
+    /// L = K' + S + H: how many intermediate symbols.
+    pub fn l(self) -> u32 {
+        self.numbers[5]
+    }
+
+    /// P = L - W: how many of them are PI symbols.
+    pub fn p(self) -> u32 {
+        self.numbers[6]
+    }
+
+    /// B = W - S: how many LT symbols are not LDPC symbols.
+    pub fn b(self) -> u32 {
+        self.numbers[7]
+    }
+
+    /// P1: the smallest prime not below P.
+    pub fn p1(self) -> u32 {
+        self.numbers[8]
     }
 }
 

@@ -25,8 +25,8 @@ unsafe extern "C" {
     pub fn spoonripple_rand(tables: *const u32, tables_len: usize, y: u32, i: u8, m: u32, out: *mut u64, out_len: usize) -> u32;
     pub fn spoonripple_deg(v: u32, w: u32, out: *mut u64, out_len: usize) -> u32;
     pub fn spoonripple_row_check(k: u32, j: u32, s: u32, h: u32, w: u32, out: *mut u64, out_len: usize) -> u32;
-    pub fn spoonripple_isi(k: u32, j: u32, s: u32, h: u32, w: u32, count: u32, esi: u32, out: *mut u64, out_len: usize) -> u32;
-    pub fn spoonripple_tuple(k: u32, j: u32, s: u32, h: u32, w: u32, tables: *const u32, tables_len: usize, isi: u32, out: *mut u64, out_len: usize) -> u32;
+    pub fn spoonripple_isi(k: u32, j: u32, s: u32, h: u32, w: u32, l: u32, p: u32, b: u32, p1: u32, count: u32, esi: u32, out: *mut u64, out_len: usize) -> u32;
+    pub fn spoonripple_tuple(k: u32, j: u32, s: u32, h: u32, w: u32, l: u32, p: u32, b: u32, p1: u32, tables: *const u32, tables_len: usize, isi: u32, out: *mut u64, out_len: usize) -> u32;
     pub fn spoonripple_slab_with_zeros(store: *mut u8, store_len: usize, count: usize, t: u16) -> u32;
     pub fn spoonripple_slab_locate(len: usize, count: usize, t: u16, order: *const u32, order_len: usize, i: usize, out: *mut u64, out_len: usize) -> u32;
     pub fn spoonripple_slab_add_assign(store: *mut u8, store_len: usize, count: usize, t: u16, order: *const u32, order_len: usize, dest: usize, src: usize) -> u32;
@@ -42,11 +42,11 @@ unsafe extern "C" {
     pub fn spoonripple_matrix_swap_columns(words: *mut u64, words_len: usize, height: usize, width: usize, i: usize, j: usize, start: usize) -> u32;
     pub fn spoonripple_matrix_add_assign_rows(words: *mut u64, words_len: usize, height: usize, width: usize, dest: usize, src: usize) -> u32;
     pub fn spoonripple_matrix_resize(words: *mut u64, words_len: usize, height: usize, width: usize, new_height: usize, new_width: usize) -> u32;
-    pub fn spoonripple_enc_indices(k: u32, j: u32, s: u32, h: u32, w: u32, d: u32, a: u32, b: u32, d1: u32, a1: u32, b1: u32, list: *mut u32, list_len: usize) -> u32;
-    pub fn spoonripple_hdpc_rows(k: u32, j: u32, s: u32, h: u32, w: u32, tables: *const u32, tables_len: usize, store: *mut u8, store_len: usize) -> u32;
-    pub fn spoonripple_constraint_matrix(k: u32, j: u32, s: u32, h: u32, w: u32, tables: *const u32, tables_len: usize, isis: *const u32, isis_len: usize, words: *mut u64, words_len: usize) -> u32;
-    pub fn spoonripple_constraint_matrix_no_hdpc(k: u32, j: u32, s: u32, h: u32, w: u32, tables: *const u32, tables_len: usize, isis: *const u32, isis_len: usize, words: *mut u64, words_len: usize) -> u32;
-    pub fn spoonripple_encode(k: u32, j: u32, s: u32, h: u32, w: u32, tables: *const u32, tables_len: usize, count: u32, t: u16, esi: u32, intermediates: *const u8, intermediates_len: usize, out: *mut u8, out_len: usize) -> u32;
-    pub fn spoonripple_solve(k: u32, j: u32, s: u32, h: u32, w: u32, tables: *const u32, tables_len: usize, count: u32, t: u16, esis: *const u32, esis_len: usize, symbols: *const u8, symbols_len: usize, rows: *mut u8, rows_len: usize, values: *mut u8, values_len: usize, out: *mut u8, out_len: usize, shortfall: *mut u64, shortfall_len: usize) -> u32;
+    pub fn spoonripple_enc_indices(k: u32, j: u32, s: u32, h: u32, w: u32, l: u32, p: u32, b: u32, p1: u32, d: u32, a: u32, tuple_b: u32, d1: u32, a1: u32, b1: u32, list: *mut u32, list_len: usize) -> u32;
+    pub fn spoonripple_hdpc_rows(k: u32, j: u32, s: u32, h: u32, w: u32, l: u32, p: u32, b: u32, p1: u32, tables: *const u32, tables_len: usize, store: *mut u8, store_len: usize) -> u32;
+    pub fn spoonripple_constraint_matrix(k: u32, j: u32, s: u32, h: u32, w: u32, l: u32, p: u32, b: u32, p1: u32, tables: *const u32, tables_len: usize, isis: *const u32, isis_len: usize, words: *mut u64, words_len: usize) -> u32;
+    pub fn spoonripple_constraint_matrix_no_hdpc(k: u32, j: u32, s: u32, h: u32, w: u32, l: u32, p: u32, b: u32, p1: u32, tables: *const u32, tables_len: usize, isis: *const u32, isis_len: usize, words: *mut u64, words_len: usize) -> u32;
+    pub fn spoonripple_encode(k: u32, j: u32, s: u32, h: u32, w: u32, l: u32, p: u32, b: u32, p1: u32, tables: *const u32, tables_len: usize, count: u32, t: u16, esi: u32, intermediates: *const u8, intermediates_len: usize, out: *mut u8, out_len: usize) -> u32;
+    pub fn spoonripple_solve(k: u32, j: u32, s: u32, h: u32, w: u32, l: u32, p: u32, b: u32, p1: u32, tables: *const u32, tables_len: usize, count: u32, t: u16, esis: *const u32, esis_len: usize, symbols: *const u8, symbols_len: usize, rows: *mut u8, rows_len: usize, values: *mut u8, values_len: usize, out: *mut u8, out_len: usize, shortfall: *mut u64, shortfall_len: usize) -> u32;
     pub fn spoonripple_display(count: u32, t: u16, esis: *const u32, esis_len: usize, arrivals: *const u8, arrivals_len: usize, rebuilt: *const u8, rebuilt_len: usize, i: u32, out: *mut u64, out_len: usize) -> u32;
 }

@@ -23,8 +23,8 @@ impl Isi {
 
 /// The ISI of an ESI in a block of `count` source symbols. Refused: 9 where the ESI is 2^24 or more, or count is not in 1..K'.
 pub fn isi(row: Row, count: u32, esi: u32) -> Result<Isi, Refusal> {
-    let [k, j, s, h, w] = row.numbers();
-    values(|out, room| unsafe { sys::spoonripple_isi(k, j, s, h, w, count, esi, out, room) }).map(|[x]| Isi(x as u32))
+    let [k, j, s, h, w, l, p, b, p1] = row.numbers();
+    values(|out, room| unsafe { sys::spoonripple_isi(k, j, s, h, w, l, p, b, p1, count, esi, out, room) }).map(|[x]| Isi(x as u32))
 }
 
 /// Rand\[y, i, m\], a number below m. Refused: 2 where m is 0.
@@ -57,8 +57,8 @@ pub struct Tuple {
 
 /// The tuple of an ISI. Nothing is refused: the row and the tables were checked when they were made.
 pub fn tuple(row: Row, tables: Tables, isi: Isi) -> Tuple {
-    let ([k, j, s, h, w], tables) = (row.numbers(), tables.numbers());
-    let numbers = values(|out, room| unsafe { sys::spoonripple_tuple(k, j, s, h, w, tables.as_ptr(), tables.len(), isi.0, out, room) });
+    let ([k, j, s, h, w, l, p, b, p1], tables) = (row.numbers(), tables.numbers());
+    let numbers = values(|out, room| unsafe { sys::spoonripple_tuple(k, j, s, h, w, l, p, b, p1, tables.as_ptr(), tables.len(), isi.0, out, room) });
     let [d, a, b, d1, a1, b1] = numbers.expect("row and tables are checked").map(|x| x as u32);
     Tuple { d, a, b, d1, a1, b1 }
 }

@@ -48,7 +48,7 @@ fn the_stores_of_solve_are_as_large_as_told_and_left_as_told() {
         ([whole.clone(), contradiction.to_vec()].concat(), Verdict::Contradiction),
     ] {
         let mut call = Call::new(&packets);
-        let l = call.row.sizes().l as usize;
+        let l = call.row.l() as usize;
         let m = l - K as usize + packets.len();
         assert_eq!(call.room, Room { rows: m * l, values: m * 6, out: l * 6 });
         assert_eq!(call.solve(), Ok(verdict));

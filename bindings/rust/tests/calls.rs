@@ -3,7 +3,6 @@
 #![forbid(unsafe_code)]
 use spoonripple::headers::{ObjectTransmissionInformation, Parts, PayloadId, partition, read_packet, write_packet};
 use spoonripple::matrix::Shape;
-use spoonripple::parameters::Sizes;
 use spoonripple::slab::Slab;
 use spoonripple::tuples::{Isi, Tuple, deg, isi, rand, tuple};
 use spoonripple::{Refusal, Row, Tables, Verdict, constraints, matrix, octets, slab};
@@ -150,9 +149,11 @@ fn partitions_are_those_of_document_01() {
 
 #[test]
 fn rows_and_tables_are_checked() {
-    assert_eq!(row().numbers(), [10, 254, 7, 10, 17]);
-    assert_eq!(row().sizes(), Sizes { l: 27, p: 10, b: 10, p1: 11 });
-    assert_eq!(Row::published(12).unwrap().sizes(), Sizes { l: 29, p: 10, b: 12, p1: 11 });
+    assert_eq!(row().numbers(), [10, 254, 7, 10, 17, 27, 10, 10, 11]);
+    // Of this row no two numbers are equal, so that none can stand for another.
+    let other = Row::published(114).unwrap();
+    assert_eq!(other.numbers(), [114, 5, 19, 10, 127, 143, 16, 108, 17]);
+    assert_eq!([other.k_prime(), other.l(), other.p(), other.b(), other.p1()], [114, 143, 16, 108, 17]);
     for bad in [[0, 254, 7, 10, 17], [10, 65536, 7, 10, 17], [10, 254, 8, 10, 17], [10, 254, 7, 1, 17], [10, 254, 7, 10, 18], [10, 254, 7, 10, 29]] {
         assert_eq!(Row::new(bad), Err(Refusal::BadRow), "{bad:?}");
     }

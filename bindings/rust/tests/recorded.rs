@@ -30,7 +30,7 @@ fn answer(tables: Tables, kind: &str, n: [u64; 7]) -> Result<Vec<u32>, Refusal> 
             ObjectTransmissionInformation { transfer_length, symbol_size, num_source_blocks, num_sub_blocks, symbol_alignment }.check()?;
             vec![]
         }
-        "w" => row(n).map(|row| vec![row.sizes().l, row.sizes().p, row.sizes().b, row.sizes().p1])?,
+        "w" => row(n).map(|row| vec![row.l(), row.p(), row.b(), row.p1()])?,
         "i" => vec![isi(row(n)?, w[5], w[6])?.number()],
         "t" => {
             let Tuple { d, a, b, d1, a1, b1 } = tuple(row(n)?, tables, Isi::of_row(w[5]));

@@ -1,5 +1,6 @@
 //! The data that bindings/rust and bindings/c carry is that of the published crate.
 #![forbid(unsafe_code)]
+use raptorq::systematic_constants::{calculate_p1, num_intermediate_symbols, num_ldpc_symbols, num_lt_symbols, num_pi_symbols};
 use raptorq::{Encoder, ObjectTransmissionInformation, SourceBlockEncoder};
 use spoonripple::parameters::{PUBLISHED_ROWS, PUBLISHED_TABLES};
 use spoonripple::{Refusal, Row, Tables};
@@ -8,6 +9,18 @@ use spoonripple::{Refusal, Row, Tables};
 fn all_477_rows() {
     let theirs = raptorq::systematic_constants::SYSTEMATIC_INDICES_AND_PARAMETERS.map(|(k, j, s, h, w)| [k, j, s, h, w]);
     assert_eq!(PUBLISHED_ROWS, theirs);
+}
+
+/// L, P and P1 as the crate looks them up. For B it has no call: with the S LDPC symbols they are the W LT symbols.
+#[test]
+fn the_records_of_all_477_rows() {
+    for five in PUBLISHED_ROWS {
+        let (k, row) = (five[0], Row::published(five[0]).unwrap());
+        assert_eq!((&row.numbers()[..5], Ok(row)), (&five[..], Row::new(five)));
+        assert_eq!([row.l(), row.p(), row.p1()], [num_intermediate_symbols(k), num_pi_symbols(k), calculate_p1(k)]);
+        assert_eq!(row.b() + num_ldpc_symbols(k), num_lt_symbols(k));
+        assert_eq!(row.numbers()[5..], [row.l(), row.p(), row.b(), row.p1()]);
+    }
 }
 
 #[test]
@@ -19,8 +32,8 @@ fn all_1024_numbers() {
 #[test]
 fn the_row_of_every_source_count() {
     for count in 1..=56403 {
-        let row = Row::published(count).unwrap().numbers();
-        assert_eq!(row[0], raptorq::extended_source_block_symbols(count));
+        let row = Row::published(count).unwrap();
+        assert_eq!(row.k_prime(), raptorq::extended_source_block_symbols(count));
     }
     assert_eq!((Row::published(0), Row::published(56404)), (Err(Refusal::BadCount), Err(Refusal::BadCount)));
 }
