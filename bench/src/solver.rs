@@ -2,7 +2,7 @@
 //! block decoder, which also rebuilds the source symbols. The same block with two packets too few, K - 2, is open: that is timed against the solved one.
 use crate::plain;
 use crate::{line, timed};
-use differential::archive::{self, Arrived, Row, Stores};
+use differential::archive::{self, Arrived, Record, Row, Stores};
 use differential::{Random, rows};
 use raptorq::{EncodingPacket, ObjectTransmissionInformation, SourceBlockDecoder, SourceBlockEncoder};
 use raptorq_lent::rng::lent::published;
@@ -13,6 +13,7 @@ const T: u16 = 1024;
 /// A block with its packets, and room for a call.
 struct Block {
     row: Row,
+    record: Record,
     k: u32,
     data: Vec<u8>,
     packets: Vec<EncodingPacket>,
@@ -28,7 +29,7 @@ impl Block {
         let packets = SourceBlockEncoder::new(0, &config(k), &data).repair_packets(0, k + 2);
         let esis: Vec<u32> = packets.iter().map(|p| p.payload_id().encoding_symbol_id()).collect();
         let symbols = packets.iter().flat_map(|p| p.data().to_vec()).collect();
-        let mut block = Block { row, k, data, packets, esis, symbols, lent: Stores::default() };
+        let mut block = Block { row, record: rows::record(row), k, data, packets, esis, symbols, lent: Stores::default() };
         let [l, m, t] = block.measures();
         block.lent = Stores { rows: vec![0; m * l], values: vec![0; m * t], out: vec![0; l * t], shortfall: vec![0] };
         block
@@ -54,7 +55,7 @@ impl Block {
     }
 
     fn rebuilt(&self, tables: &[u32], set: &[u8]) -> Vec<u8> {
-        archive::rebuilt(self.row, tables, self.k, T, set).expect("nothing is refused")
+        archive::rebuilt(self.record, tables, self.k, T, set).expect("nothing is refused")
     }
 
     /// L, M and T.
@@ -72,10 +73,10 @@ fn config(k: u32) -> ObjectTransmissionInformation {
 /// did on symbols: sums, sums with products, products.
 fn agree(block: &Block, tables: &[u32]) -> [u64; 3] {
     let (mut ours, mut theirs) = (block.lent.clone(), block.lent.clone());
-    let code = archive::solve(block.row, tables, block.short(), &mut ours);
+    let code = archive::solve(block.record, tables, block.short(), &mut ours);
     let (plain, _) = plain::solve(block.row, tables, block.short(), &mut theirs);
     assert!(code == 101 && plain == 101 && ours == theirs, "both are open, with the same shortfall");
-    let code = archive::solve(block.row, tables, block.came(), &mut ours);
+    let code = archive::solve(block.record, tables, block.came(), &mut ours);
     let (plain, operations) = plain::solve(block.row, tables, block.came(), &mut theirs);
     assert!(code == 0 && plain == 0 && ours == theirs, "both solve, and leave the same");
     let decoded = SourceBlockDecoder::new(0, &config(block.k), block.data.len() as u64).decode(block.packets.clone());
@@ -96,9 +97,9 @@ fn ratios(block: &Block, tables: &[u32]) -> [f64; 4] {
     let [mut ours, mut theirs, mut short] = [(); 3].map(|()| block.lent.clone());
     let mut turns = [vec![], vec![], vec![], vec![]];
     for turn in 0..(40_000 / block.k).clamp(150, 800) {
-        let mut few = || timed(1, &mut || assert!(archive::solve(block.row, tables, black_box(block.short()), black_box(&mut short)) == 101));
+        let mut few = || timed(1, &mut || assert!(archive::solve(block.record, tables, black_box(block.short()), black_box(&mut short)) == 101));
         let before = (turn % 2 == 1).then(&mut few);
-        let solve = timed(1, &mut || assert!(archive::solve(block.row, tables, black_box(block.came()), black_box(&mut ours)) == 0));
+        let solve = timed(1, &mut || assert!(archive::solve(block.record, tables, black_box(block.came()), black_box(&mut ours)) == 0));
         let open = before.unwrap_or_else(few);
         let plain = timed(1, &mut || assert!(plain::solve(block.row, tables, black_box(block.came()), black_box(&mut theirs)).0 == 0));
         let decoder = block.decoded();

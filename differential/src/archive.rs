@@ -13,6 +13,9 @@ fn done(code: u32) -> Answer<()> {
 /// K', J, S, H, W.
 pub type Row = [u32; 5];
 
+/// A row with what the check makes of it: K', J, S, H, W, L, P, B, P1. `rows::record` makes the harness's own.
+pub type Record = [u32; 9];
+
 /// A call on octets: its value goes to `out`, which may have any room.
 macro_rules! octet_call {
     ($name:ident, $inner:ident, $($arg:ident: $kind:ty),+) => {
@@ -86,12 +89,12 @@ pub fn row_check([k, j, s, h, w]: Row, out: &mut [u64]) -> Answer<()> {
     done(unsafe { spoonripple_row_check(k, j, s, h, w, out.as_mut_ptr(), out.len()) })
 }
 
-pub fn isi([k, j, s, h, w]: Row, count: u32, esi: u32, out: &mut [u64]) -> Answer<()> {
-    done(unsafe { spoonripple_isi(k, j, s, h, w, count, esi, out.as_mut_ptr(), out.len()) })
+pub fn isi([k, j, s, h, w, l, p, b, p1]: Record, count: u32, esi: u32, out: &mut [u64]) -> Answer<()> {
+    done(unsafe { spoonripple_isi(k, j, s, h, w, l, p, b, p1, count, esi, out.as_mut_ptr(), out.len()) })
 }
 
-pub fn tuple([k, j, s, h, w]: Row, tables: &[u32], isi: u32, out: &mut [u64]) -> Answer<()> {
-    done(unsafe { spoonripple_tuple(k, j, s, h, w, tables.as_ptr(), tables.len(), isi, out.as_mut_ptr(), out.len()) })
+pub fn tuple([k, j, s, h, w, l, p, b, p1]: Record, tables: &[u32], isi: u32, out: &mut [u64]) -> Answer<()> {
+    done(unsafe { spoonripple_tuple(k, j, s, h, w, l, p, b, p1, tables.as_ptr(), tables.len(), isi, out.as_mut_ptr(), out.len()) })
 }
 
 /// The numbers of a slab: how many symbols, of how many bytes.
@@ -175,26 +178,33 @@ pub fn matrix_resize(words: &mut [u64], m: Shape, new: Shape) -> Answer<()> {
     done(unsafe { spoonripple_matrix_resize(words.as_mut_ptr(), words.len(), m.height, m.width, new.height, new.width) })
 }
 
-pub fn enc_indices([k, j, s, h, w]: Row, [d, a, b, d1, a1, b1]: [u32; 6], list: &mut [u32]) -> Answer<()> {
-    done(unsafe { spoonripple_enc_indices(k, j, s, h, w, d, a, b, d1, a1, b1, list.as_mut_ptr(), list.len()) })
+pub fn enc_indices([k, j, s, h, w, l, p, b, p1]: Record, [d, a, tuple_b, d1, a1, b1]: [u32; 6], list: &mut [u32]) -> Answer<()> {
+    done(unsafe { spoonripple_enc_indices(k, j, s, h, w, l, p, b, p1, d, a, tuple_b, d1, a1, b1, list.as_mut_ptr(), list.len()) })
 }
 
-pub fn hdpc_rows([k, j, s, h, w]: Row, tables: &[u32], store: &mut [u8]) -> Answer<()> {
-    done(unsafe { spoonripple_hdpc_rows(k, j, s, h, w, tables.as_ptr(), tables.len(), store.as_mut_ptr(), store.len()) })
+pub fn hdpc_rows([k, j, s, h, w, l, p, b, p1]: Record, tables: &[u32], store: &mut [u8]) -> Answer<()> {
+    done(unsafe { spoonripple_hdpc_rows(k, j, s, h, w, l, p, b, p1, tables.as_ptr(), tables.len(), store.as_mut_ptr(), store.len()) })
 }
 
 #[inline]
-pub fn constraint_matrix([k, j, s, h, w]: Row, tables: &[u32], ids: &[u32], words: &mut [u64]) -> Answer<()> {
-    done(unsafe { spoonripple_constraint_matrix(k, j, s, h, w, tables.as_ptr(), tables.len(), ids.as_ptr(), ids.len(), words.as_mut_ptr(), words.len()) })
-}
-
-pub fn constraint_matrix_no_hdpc([k, j, s, h, w]: Row, tables: &[u32], ids: &[u32], words: &mut [u64]) -> Answer<()> {
-    done(unsafe { spoonripple_constraint_matrix_no_hdpc(k, j, s, h, w, tables.as_ptr(), tables.len(), ids.as_ptr(), ids.len(), words.as_mut_ptr(), words.len()) })
-}
-
-pub fn encode([k, j, s, h, w]: Row, tables: &[u32], count: u32, t: u16, esi: u32, intermediates: &[u8], out: &mut [u8]) -> Answer<()> {
+pub fn constraint_matrix([k, j, s, h, w, l, p, b, p1]: Record, tables: &[u32], ids: &[u32], words: &mut [u64]) -> Answer<()> {
     done(unsafe {
-        spoonripple_encode(k, j, s, h, w, tables.as_ptr(), tables.len(), count, t, esi, intermediates.as_ptr(), intermediates.len(), out.as_mut_ptr(), out.len())
+        spoonripple_constraint_matrix(k, j, s, h, w, l, p, b, p1, tables.as_ptr(), tables.len(), ids.as_ptr(), ids.len(), words.as_mut_ptr(), words.len())
+    })
+}
+
+pub fn constraint_matrix_no_hdpc([k, j, s, h, w, l, p, b, p1]: Record, tables: &[u32], ids: &[u32], words: &mut [u64]) -> Answer<()> {
+    done(unsafe {
+        spoonripple_constraint_matrix_no_hdpc(k, j, s, h, w, l, p, b, p1, tables.as_ptr(), tables.len(), ids.as_ptr(), ids.len(), words.as_mut_ptr(), words.len())
+    })
+}
+
+pub fn encode([k, j, s, h, w, l, p, b, p1]: Record, tables: &[u32], count: u32, t: u16, esi: u32, intermediates: &[u8], out: &mut [u8]) -> Answer<()> {
+    done(unsafe {
+        spoonripple_encode(
+            k, j, s, h, w, l, p, b, p1, tables.as_ptr(), tables.len(), count, t, esi,
+            intermediates.as_ptr(), intermediates.len(), out.as_mut_ptr(), out.len(),
+        )
     })
 }
 
@@ -218,21 +228,22 @@ pub struct Stores {
 
 /// 0 solved, 100 contradiction, 101 open, else the number of the refusal.
 #[inline]
-pub fn solve([k, j, s, h, w]: Row, tables: &[u32], came: Arrived, lent: &mut Stores) -> u32 {
+pub fn solve([k, j, s, h, w, l, p, b, p1]: Record, tables: &[u32], came: Arrived, lent: &mut Stores) -> u32 {
     let Stores { rows, values, out, shortfall } = lent;
     unsafe {
         spoonripple_solve(
-            k, j, s, h, w, tables.as_ptr(), tables.len(), came.count, came.t, came.esis.as_ptr(), came.esis.len(), came.symbols.as_ptr(), came.symbols.len(),
+            k, j, s, h, w, l, p, b, p1, tables.as_ptr(), tables.len(), came.count, came.t,
+            came.esis.as_ptr(), came.esis.len(), came.symbols.as_ptr(), came.symbols.len(),
             rows.as_mut_ptr(), rows.len(), values.as_mut_ptr(), values.len(), out.as_mut_ptr(), out.len(), shortfall.as_mut_ptr(), shortfall.len(),
         )
     }
 }
 
 /// The source symbols of a block, encoded from its intermediate symbols.
-pub fn rebuilt(row: Row, tables: &[u32], count: u32, t: u16, set: &[u8]) -> Answer<Vec<u8>> {
+pub fn rebuilt(record: Record, tables: &[u32], count: u32, t: u16, set: &[u8]) -> Answer<Vec<u8>> {
     let mut block = vec![0; count as usize * usize::from(t)];
     for (esi, symbol) in (0..).zip(block.chunks_mut(t.into())) {
-        encode(row, tables, count, t, esi, set, symbol)?;
+        encode(record, tables, count, t, esi, set, symbol)?;
     }
     Ok(block)
 }

@@ -1,4 +1,5 @@
 //! Constraint rows: walks, HDPC octets and both builders, over the published rows and tables and over made-up ones.
+use crate::records;
 use differential::archive::{self, Answer, Row};
 use differential::report::{Found, Report};
 use differential::rows::{self, sizes};
@@ -34,7 +35,7 @@ fn any_tuple(random: &mut Random, w: u32, p1: u32) -> [u32; 6] {
 
 /// Our walk into a list with this room.
 fn walk(row: Row, tuple: [u32; 6], room: usize) -> Answer<Vec<u32>> {
-    places(room, |list| archive::enc_indices(row, tuple, list).map(|()| (tuple[0] + tuple[3]) as usize))
+    places(room, |list| archive::enc_indices(rows::record(row), tuple, list).map(|()| (tuple[0] + tuple[3]) as usize))
 }
 
 fn walks(report: &mut Report, random: &mut Random) {
@@ -79,7 +80,7 @@ fn hdpc(report: &mut Report, random: &mut Random, row: Row, tables: &[u32]) {
     let [k, _, s, h, _] = row.map(|n| n as usize);
     let l = k + s + h;
     let (room, lent_tables) = (random.room(h * l), rows::lent_tables(random, tables));
-    let lent = Lent::to(random.bytes(room), |store| archive::hdpc_rows(row, &lent_tables, store));
+    let lent = Lent::to(random.bytes(room), |store| archive::hdpc_rows(rows::record(row), &lent_tables, store));
     let given = caught(|| {
         let matrix = theirs::generate_hdpc_rows(k, s, h);
         (0..h * l).map(|at| matrix.get(at / l, at % l).byte()).collect::<Vec<u8>>()
@@ -117,7 +118,7 @@ fn builder(report: &mut Report, random: &mut Random, row: Row, tables: &[u32], i
     let (few, many) = (ids.len() < least, ids.len() > 65535);
     let room = if few || many { random.below(9) as usize } else { random.room(used) };
     let lent_tables = rows::lent_tables(random, tables);
-    let lent = Lent::to(random.words(room), |words| call(row, &lent_tables, ids, words));
+    let lent = Lent::to(random.words(room), |words| call(rows::record(row), &lent_tables, ids, words));
     let said = || format!("builder of {row:?} with {} ids, HDPC {with_hdpc}, {} numbers, room {room}", ids.len(), lent_tables.len());
     let refused = refusal(&[(4, sizes(row).is_none()), (5, lent_tables.len() != 1024), (9, few), (9, many), (8, room < used)]);
     if let Some(n @ (4 | 5 | 8)) = refused {
@@ -191,5 +192,6 @@ pub fn run(count: u64, seed: u64) -> Found {
     }
     row_lent::lend(None);
     tables_lent::lend(None);
+    records::tried(&mut report, &mut random, count / 500, &records::CONSTRAINTS, 40);
     report.close()
 }

@@ -1,4 +1,5 @@
 //! The encoding of one symbol: blocks that the crate encoded, and made-up rows and intermediates against the crate's tuple and walk.
+use crate::records;
 use differential::archive::{self, Row};
 use differential::report::{Found, Report};
 use differential::rows::{self, sizes};
@@ -49,7 +50,7 @@ fn made_up(report: &mut Report, random: &mut Random) {
 /// The symbol of an ESI of a block of `count` source symbols of t octets.
 fn encode(report: &mut Report, random: &mut Random, (row, tables): (Row, &[u32]), (count, t, esi): (u32, u16, u32), intermediates: &[u8]) {
     let (room, lent_tables) = (random.room(t.into()), rows::lent_tables(random, tables));
-    let lent = Lent::to(random.bytes(room), |out| archive::encode(row, &lent_tables, count, t, esi, intermediates, out));
+    let lent = Lent::to(random.bytes(room), |out| archive::encode(rows::record(row), &lent_tables, count, t, esi, intermediates, out));
     let said = || format!("encode {esi} of {count}, T {t}, {row:?}, {} numbers, {} octets, room {room}", lent_tables.len(), intermediates.len());
     let short = sizes(row).is_some_and(|[l, ..]| intermediates.len() < l as usize * usize::from(t));
     let refused = refusal(&[
@@ -86,12 +87,12 @@ fn real(report: &mut Report, random: &mut Random) {
     let intermediates: Vec<u8> = (0..slab.len()).flat_map(|i| slab.get(i).to_vec()).collect();
     for packet in encoder.source_packets().into_iter().chain(encoder.repair_packets(0, 20)) {
         let (id, symbol) = packet.split();
-        let lent = Lent::to(vec![0; 16], |out| archive::encode(row, &tables, k, t, id.encoding_symbol_id(), &intermediates, out));
+        let lent = Lent::to(vec![0; 16], |out| archive::encode(rows::record(row), &tables, k, t, id.encoding_symbol_id(), &intermediates, out));
         report.equal(lent.holds(&symbol), || format!("symbol {} of a block of {k}", id.encoding_symbol_id()));
     }
     let last = (1 << 24) - k;
     let given = caught(|| encoder.repair_packets(last, 1));
-    let lent = Lent::to(vec![0; 16], |out| archive::encode(row, &tables, k, t, 1 << 24, &intermediates, out));
+    let lent = Lent::to(vec![0; 16], |out| archive::encode(rows::record(row), &tables, k, t, 1 << 24, &intermediates, out));
     report.listed("D6 (ESI of 2^24)", lent.refused(9) && given.is_none(), || format!("symbol 2^24 of a block of {k}"));
 }
 
@@ -103,7 +104,7 @@ fn refused_blocks(report: &mut Report) {
         let data = vec![0; k as usize * usize::from(t)];
         let given = caught(|| SourceBlockEncoder::new(0, &config, &data).repair_packets(0, 1));
         let seen = if k == 0 { given.is_some_and(|packets| packets[0].data() == [0]) } else { given.is_none() };
-        let lent = Lent::to(vec![7; 16], |out| archive::encode(row, &tables, k, t, 0, &vec![0; 70000], out));
+        let lent = Lent::to(vec![7; 16], |out| archive::encode(rows::record(row), &tables, k, t, 0, &vec![0; 70000], out));
         let number = refusal(&[(9, !(1..=row[0]).contains(&k)), (10, t == 0)]);
         report.listed(rule, number.is_some_and(|n| lent.refused(n)) && seen, || format!("encode of K {k}, T {t}"));
     }
@@ -119,5 +120,6 @@ pub fn run(count: u64, seed: u64) -> Found {
         real(&mut report, &mut random);
     }
     refused_blocks(&mut report);
+    records::tried(&mut report, &mut random, count / 500, &records::ENCODING, 477);
     report.close()
 }

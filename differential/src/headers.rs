@@ -1,4 +1,5 @@
 //! Headers and tuples: ids, transmission information, packets, partitions, degrees, rand, parameter rows, the shift, tuples.
+use crate::records;
 use differential::archive::{self, Row};
 use differential::report::{Found, Report};
 use differential::rows::{self, sizes};
@@ -198,15 +199,15 @@ fn thresholds(report: &mut Report) {
 
 /// Rows and the shift: the crate looks its rows up and has no check of one, and its shift is a sum inside its decoder.
 fn parameter_rows(report: &mut Report, random: &mut Random) {
-    let (row, room) = (rows::made_up(random), random.room(4));
-    let ours = values(room, 4, |out| archive::row_check(row, out));
+    let (row, room) = (rows::made_up(random), random.room(9));
+    let ours = values(room, 9, |out| archive::row_check(row, out));
     let said = || format!("row {row:?}, room {room}");
-    match refusal(&[(4, sizes(row).is_none()), (8, room < 4)]) {
+    match refusal(&[(4, sizes(row).is_none()), (8, room < 9)]) {
         Some(n) => report.refusal(ours == Err(n), said),
-        None => report.computed(ours.ok() == sizes(row).map(|s| s.map(u64::from).to_vec()), said),
+        None => report.computed(ours == Ok(rows::record(row).map(u64::from).to_vec()), said),
     }
     let (k, esi, room) = (edgy(random, 17) as u32, edgy(random, 25) as u32, random.room(1));
-    let ours = values(room, 1, |out| archive::isi(row, k, esi, out));
+    let ours = values(room, 1, |out| archive::isi(rows::record(row), k, esi, out));
     let said = || format!("isi of {esi} with K {k} of {row:?}, room {room}");
     match refusal(&[(4, sizes(row).is_none()), (9, esi >= 1 << 24), (9, !(1..=row[0]).contains(&k)), (8, room < 1)]) {
         Some(9) if esi >= 1 << 24 => report.listed("D6 (ESI of 2^24)", ours == Err(9) && caught(|| PayloadId::new(0, esi)).is_none(), said),
@@ -217,7 +218,7 @@ fn parameter_rows(report: &mut Report, random: &mut Random) {
 
 /// The tuple of an ISI, with the tables that the crate reads too; `lent` are those, or of another length.
 fn tuple(report: &mut Report, row: Row, tables: &[u32], lent: &[u32], x: u32, room: usize) {
-    let ours = values(room, 6, |out| archive::tuple(row, lent, x, out));
+    let ours = values(room, 6, |out| archive::tuple(rows::record(row), lent, x, out));
     let p1 = rows::pi_sizes(row).map(|[_, p1]| p1);
     let given = p1.and_then(|p1| caught(|| base::intermediate_tuple(x, row[4], row[1], p1))).map(|(d, a, b, d1, a1, b1)| [d, a, b, d1, a1, b1]);
     let right = || p1.and_then(|p1| caught(|| rows::tuple(row, p1, tables, x)));
@@ -237,8 +238,9 @@ fn tuples(report: &mut Report, random: &mut Random, rounds: u64) {
         for x in (0..50).chain((0..50).map(|_| random.word() as u32)).chain(u32::MAX - 5..=u32::MAX) {
             tuple(report, row, &published, &published, x, 6);
         }
-        let ours = values(4, 4, |out| archive::row_check(row, out));
-        report.equal(ours == Ok(rows::published_sizes(row).to_vec()), || format!("published row {row:?}"));
+        let ours = values(9, 9, |out| archive::row_check(row, out));
+        let given = row.into_iter().map(u64::from).chain(rows::published_sizes(row)).collect();
+        report.equal(ours == Ok(given), || format!("published row {row:?}"));
     }
     for _ in 0..rounds {
         let tables = rows::any_tables(random);
@@ -269,5 +271,6 @@ pub fn run(count: u64, seed: u64) -> Found {
     rng::lent::lend(None);
     thresholds(&mut report);
     tuples(&mut report, &mut random, count / 100);
+    records::tried(&mut report, &mut random, count / 500, &records::HEADERS, 477);
     report.close()
 }

@@ -5,6 +5,7 @@ mod field;
 mod headers;
 mod matrix;
 mod receive;
+mod records;
 mod slab;
 mod solver;
 mod vectors;

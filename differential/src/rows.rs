@@ -1,10 +1,10 @@
 //! Parameter rows for the harness: the published ones, made-up ones, and the rules and numbers of document 01 in plain Rust.
 use crate::Random;
-use crate::archive::Row;
+use crate::archive::{Record, Row};
 use raptorq::systematic_constants as constants;
 use std::borrow::Cow;
 
-fn is_prime(n: u32) -> bool {
+pub fn is_prime(n: u32) -> bool {
     n >= 2 && (2..).take_while(|d: &u64| d * d <= n.into()).all(|d| u64::from(n) % d != 0)
 }
 
@@ -26,7 +26,16 @@ pub fn sizes([k, j, s, h, w]: Row) -> Option<[u32; 4]> {
         && k + s + h >= w + 3
         && (w - s).div_ceil(s) < s
         && k + s + h <= 65535;
-    fits.then(|| pi_sizes([k, j, s, h, w]).map(|[p, p1]| [k + s + h, p, w - s, p1])).flatten()
+    fits.then(|| record([k, j, s, h, w])).map(|[.., l, p, b, p1]| [l, p, b, p1])
+}
+
+/// The record of a row, as the check has to make it. A row that breaks a rule has one too, of sums modulo 2^32 and with 0 for a P1 far above all sizes: so
+/// it is refused for its rule, and not for L, P, B or P1.
+pub fn record([k, j, s, h, w]: Row) -> Record {
+    let l = k.wrapping_add(s).wrapping_add(h);
+    let (p, b) = (l.wrapping_sub(w), w.wrapping_sub(s));
+    let p1 = (p..1 << 20).find(|n| is_prime(*n)).unwrap_or(0);
+    [k, j, s, h, w, l, p, b, p1]
 }
 
 /// The 477 rows of RFC 6330, Table 2, as the crate has them.
@@ -82,6 +91,11 @@ pub fn accepted_of(random: &mut Random, many: [u64; 3]) -> Row {
             return row;
         }
     }
+}
+
+/// An accepted row, small, or one of so many published ones from the first on.
+pub fn accepted_or_published(random: &mut Random, many: u64) -> Row {
+    if random.below(2) == 0 { published()[random.below(many) as usize] } else { accepted_of(random, [45, 6, 12]) }
 }
 
 /// A small row of which one number breaks a rule.

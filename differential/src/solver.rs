@@ -1,4 +1,5 @@
 //! Solving and display: blocks that the crate encoded, made-up systems against the harness's own elimination, and calls that are refused.
+use crate::records;
 use differential::archive::{self, Arrived, Row, Stores};
 use differential::report::{Found, Report};
 use differential::rows::{self, any_tables, measures, sizes};
@@ -8,7 +9,7 @@ use raptorq::{EncodingPacket, ObjectTransmissionInformation, PayloadId, SourceBl
 use raptorq_lent::rng::lent::published;
 
 /// Stores with room for the call and up to four places more, of any content.
-fn stores(random: &mut Random, row: Row, count: u32, t: u16, n: usize) -> Stores {
+pub fn stores(random: &mut Random, row: Row, count: u32, t: u16, n: usize) -> Stores {
     let ([l, m], t) = (measures(row, count, n), usize::from(t));
     let mut more = |n: usize| n + random.below(5) as usize;
     let (rows, values, out, shortfall) = (more(m * l), more(m * t), more(l * t), more(1));
@@ -49,7 +50,7 @@ fn solved(random: &mut Random, row: Row, tables: &[u32], came: Arrived, fixed: &
     let (verdict, measures) = judged(row, tables, came, fixed);
     let before = stores(random, row, came.count, came.t, came.esis.len());
     let mut lent = before.clone();
-    let code = archive::solve(row, tables, came, &mut lent);
+    let code = archive::solve(rows::record(row), tables, came, &mut lent);
     let same = as_told(&verdict, code, &before, &lent, measures);
     (verdict, same, lent)
 }
@@ -147,7 +148,7 @@ fn real(report: &mut Report, random: &mut Random, k: u32, t: u16, extra: i64) {
     report.kind(kind(&verdict));
     match &verdict {
         Verdict::Solved(set) => {
-            let rebuilt = archive::rebuilt(block.row, &tables, k, t, &lent.out).ok();
+            let rebuilt = archive::rebuilt(rows::record(block.row), &tables, k, t, &lent.out).ok();
             let sent = rule.is_some() || (*set == block.set && rebuilt.as_ref() == Some(&block.data));
             report.equal(same && sent && rebuilt.is_some() && decoded == Some(rebuilt), said);
         }
@@ -243,7 +244,7 @@ fn refused_by(c: &Call) -> Option<u32> {
 fn called(call: &Call) -> (u32, Call) {
     let mut after = call.clone();
     let came = Arrived { count: call.count, t: call.t, esis: &after.esis, symbols: &after.symbols };
-    let code = archive::solve(call.row, &after.tables, came, &mut after.lent);
+    let code = archive::solve(rows::record(call.row), &after.tables, came, &mut after.lent);
     (code, after)
 }
 
@@ -437,5 +438,6 @@ pub fn run(count: u64, seed: u64) -> Found {
     for (k, t) in [(10, 2048), (10, 2049), (10, 65535), (1954, 1), (1979, 1)] {
         [0, 2, -2].into_iter().for_each(|extra| real(&mut report, &mut random, k, t, extra));
     }
+    records::tried(&mut report, &mut random, count / 500, &records::SOLVER, 10);
     report.close()
 }
