@@ -207,6 +207,11 @@ five n q b p d l =
       derived = record { l-fits = refl; p-fits = refl; b-fits = refl; p1-fits = refl };
     }
 
+-- the record as the check works it out
+pub worked-out : (kp j s h w : ℕ) {n : ℕ} → n ≡ p1Of (rowOf kp j s h w)
+    → _≡_ {A = Row} (record { kp = kp; j = j; s = s; h = h; w = w; l = kp + s + h; p = kp + s + h - w; b = w - s; p1 = n }) (rowOf kp j s h w)
+worked-out kp j s h w e = rw e
+
 -- what the check answers of a record that it made, and what its answer tells
 module _ (r : Row) where
   pub refused-row : (Obeys r → ⊥) → refused 4 ≡ checked r

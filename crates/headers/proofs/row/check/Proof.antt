@@ -4,7 +4,7 @@ use native.Mathlib.Omega.{arith}
 use borrow.Author.Needs.{needs}
 use Rattle.headers.specs.Row.{Ranges, rowOf}
 use Rattle.headers.proofs.Tests.{granted, denied}
-use Rattle.headers.proofs.Accepted.{five, made-row, refused-row}
+use Rattle.headers.proofs.Accepted.{five, made-row, refused-row, worked-out}
 use Rattle.headers.proofs.row.check.Statement.{statement}
 use Rattle.headers.proofs.row.check.Tie as tie
 
@@ -79,7 +79,7 @@ returns-7 c =
     let o =
     five (ranged (tested .before .before)) (granted (tested .before .is-prime .result) (tested .if2 .left) (tested .before .is-prime .ensures))
     (omega arith) (omega arith) (omega (arith, c .before .before .before .int-div-ceil .ensures)) (omega arith) in
-    made-row (rowOf (a .kp) (a .j) (a .s) (a .h) (a .w)) (rw (c .first-prime .ensures)) o
+    made-row (rowOf (a .kp) (a .j) (a .s) (a .h) (a .w)) (worked-out (a .kp) (a .j) (a .s) (a .h) (a .w) (c .first-prime .ensures)) o
 
 pub check-spec : {M : Type 1} → statement M
 check-spec =
