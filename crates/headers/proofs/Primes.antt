@@ -31,6 +31,24 @@ trial n d h q k = record { two = h; alone = λ e b a z. go e a b z (decLt e d) }
         small f s (yes u) (yes w) = omega (arith, mul-le-mul-right {m = f} {n = 1} e (omega arith), one-mul e)
         small f s (yes u) (no w) = k f u (omega arith) (ap (λ (x : ℕ). x % f) (sym s) ∙ mul-mod-right f e)
 
+-- what an even number divides, 2 divides
+even : (n m : ℕ) → n % (m + m) ≡ 0 → n % 2 ≡ 0
+even n m z =
+    let f : ℕ = n / (m + m) in
+    let s : f * (m + m) ≡ n = sym (add-zero (f * (m + m))) ∙ ap (λ (x : ℕ). f * (m + m) + x) (sym z) ∙ div-add-mod' n (m + m) in
+    omega arith
+
+-- so after 2 the odd numbers are enough
+pub clear-step : (n d : ℕ) → 2 ≤ d → Clear n d → (n % d ≡ 0 → ⊥) → Clear n (d + (1 + d % 2))
+clear-step n d h c u e b a z = go (decLt e d) (ℕ-discrete e d)
+  where
+    go : Dec (e < d) → Dec (e ≡ d) → ⊥
+    go (yes l) q = c e l a z
+    go (no l) (yes q) = u (subst (λ (x : ℕ). n % x ≡ 0) q z)
+    go (no l) (no q) =
+        let r : e ≡ e / 2 + e / 2 = omega arith in
+        c 2 (omega arith) (omega arith) (even n (e / 2) (subst (λ (x : ℕ). n % x ≡ 0) r z))
+
 -- a divisor up to the root is a proper one
 pub composite : (n d : ℕ) → 2 ≤ d → d * d ≤ n → n % d ≡ 0 → Prime n → ⊥
 composite n d h q z p = p .alone d (omega (arith, mul-le-mul-right {m = 2} {n = d} d h)) h z

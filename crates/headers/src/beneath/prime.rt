@@ -19,7 +19,7 @@ pub fn first_prime(p: u32) -> u32
             if n % d == 0 {
                 break 'divisors;
             }
-            d += 1;
+            d += 1 + d % 2; // 2, 3, 5, 7, ..: an even number divides only what 2 divides
         }
         n += 1;
     };

@@ -6,7 +6,7 @@ use native.Mathlib.Nat.{mul-le-mul}
 use borrow.Author.Needs.{needs}
 use borrow.Author.Count.{below-more}
 use Rattle.headers.specs.Prime.{Prime}
-use Rattle.headers.proofs.Primes.{Clear, trial, composite, root, below-last, first-from, first-one}
+use Rattle.headers.proofs.Primes.{Clear, clear-step, trial, composite, root, below-last, first-from, first-one}
 use Rattle.headers.proofs.beneath.prime.first_prime.Statement.{statement}
 use Rattle.headers.proofs.beneath.prime.first_prime.Tie as tie
 
@@ -37,6 +37,9 @@ rem-if2 c = search needs
 add-d : tie.Need-add-d Inv-divisors μ-divisors Inv-search μ-search
 add-d c = search needs
 
+add-d-2 : tie.Need-add-d-2 Inv-divisors μ-divisors Inv-search μ-search
+add-d-2 c = search needs
+
 divisors-less : tie.Need-divisors-less Inv-divisors μ-divisors Inv-search μ-search
 divisors-less c = omega (arith, root _ _ (c .before .if1 .left) (c .before .before .before .search .inv .1))
 
@@ -44,7 +47,7 @@ divisors-again : tie.Need-divisors-again Inv-divisors μ-divisors Inv-search μ-
 divisors-again c = (
   omega arith,
   omega (arith, root _ _ (c .before .if1 .left) (c .before .before .before .search .inv .1)),
-  below-more _ _ (c .before .before .divisors .inv .2) (λ _. c .if2 .left),
+  clear-step _ _ (c .before .before .divisors .inv .0) (c .before .before .divisors .inv .2) (c .if2 .left),
 )
 
 -- a number with a divisor is no prime, so it is not the last
@@ -86,6 +89,7 @@ first-prime-spec =
     mul-if1
     rem-if2
     add-d
+    add-d-2
     divisors-less
     divisors-again
     add-n
