@@ -12,7 +12,7 @@ use Rattle.field.specs.Answer.{given, refused, unless}
 use Rattle.field.proofs.Answers.{given-only, refused-only, given-not-refused}
 use Rattle.field.proofs.Refusals.{passed}
 use Rattle.headers.specs.Prime.{Prime, FirstFrom, clear, prime}
-use Rattle.headers.specs.Row.{Ranges, Obeys, obeys, between, Derived, sixteen, fitting, bands, lOf, pOf, bOf, p1Of, completed, rowOf, checked, rowChecked}
+use Rattle.headers.specs.Row.{Obeys, obeys, between, Derived, sixteen, fitting, bands, lOf, pOf, bOf, p1Of, completed, checked, rowChecked}
 use Rattle.headers.specs.Tuples.{Ready}
 use Rattle.headers.specs.declared.row.Row.{Row}
 use Rattle.headers.proofs.Tests.{Tells, tells-both, tells-as, tells-le, tells-lt, tells-eq, is-true, is-false, tells-true, is-test}
@@ -193,24 +193,6 @@ with-derived o d =
       l-high = o .l-high;
       derived = d;
     }
-
--- the nine rules, of five numbers, are all that the check asks
-pub five : {kp j s h w : ℕ} → let r = rowOf kp j s h w in Ranges kp j s h w → Prime w → 1 ≤ bOf r → 3 ≤ pOf r → bands r < s → lOf r ≤ 65535 → Obeys r
-five n q b p d l =
-    record {
-      ranges = n;
-      w-prime = q;
-      b-low = b;
-      p-low = p;
-      b-high = d;
-      l-high = l;
-      derived = record { l-fits = refl; p-fits = refl; b-fits = refl; p1-fits = refl };
-    }
-
--- the record as the check works it out
-pub worked-out : (kp j s h w : ℕ) {n : ℕ} → n ≡ p1Of (rowOf kp j s h w)
-    → _≡_ {A = Row} (record { kp = kp; j = j; s = s; h = h; w = w; l = kp + s + h; p = kp + s + h - w; b = w - s; p1 = n }) (rowOf kp j s h w)
-worked-out kp j s h w e = rw e
 
 -- what the check answers of a record that it made, and what its answer tells
 module _ (r : Row) where

@@ -12,6 +12,8 @@ use Rattle.headers.specs.Prime.{Prime, prime, firstPrime}
 use Rattle.headers.specs.Quotient.{ceil}
 use Rattle.headers.specs.declared.row.Row.{Row}
 use Rattle.headers.specs.declared.row.Checked.{Checked}
+use Rattle.headers.specs.declared.beneath.row.Derivation.{Derivation}
+use Rattle.headers.specs.declared.beneath.row.Derivation.the-variants.{Numbers, Broken}
 use Rattle.headers.specs.declared.row.Checked.the-variants.{Value, Refused}
 
 -- L = K' + S + H
@@ -99,6 +101,11 @@ rowOf kp j s h w = completed (record { kp = kp; j = j; s = s; h = h; w = w; l = 
 -- the record, where it keeps the rules
 abbrev pub checked : Row → Outcome Row
 checked r = unless (not (obeys r)) 4 (given r)
+
+-- what follows from five numbers: with them it is a record that keeps the rules, or no four numbers would make one
+abbrev pub Derives : ℕ → ℕ → ℕ → ℕ → ℕ → Derivation → Type 0
+Derives kp j s h w (Numbers l p b p1) = Obeys (record { kp = kp; j = j; s = s; h = h; w = w; l = l; p = p; b = b; p1 = p1 })
+Derives kp j s h w Broken = Obeys (rowOf kp j s h w) → ⊥
 
 -- what the check answers
 abbrev pub rowChecked : ℕ → ℕ → ℕ → ℕ → ℕ → Outcome Row

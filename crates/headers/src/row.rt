@@ -1,9 +1,8 @@
 // The parameter row of a block (RFC 6330 section 5.6), and its check.
 ghost use mathlib.Core.Path.{_≡_};
 ghost use Rattle.headers.specs.Row.{rowChecked, rowOutcome};
-use crate::beneath;
-use crate::beneath::prime;
-use crate::beneath::util;
+use crate::beneath::row;
+use crate::beneath::row::Derivation;
 use field::refusal::Refusal;
 
 // K', J, S, H and W, which the caller has, and L, P, B and P1, which follow from them.
@@ -24,32 +23,13 @@ pub enum Checked {
     Refused(Refusal),
 }
 
-// The rules in document 01's order. Nothing else works L, P, B or P1 out: whoever needs one reads it from the record.
+// The one function that makes a record.
 pub fn check(kp: u32, j: u32, s: u32, h: u32, w: u32) -> Checked
     ensures { λ c. ⌜ rowOutcome c ≡ rowChecked kp j s h w ⌝ }
 {
-    if !beneath::row::in_range(kp, j, s, h, w) {
+    let Derivation::Numbers { l, p, b, p1 } = row::derive(kp, j, s, h, w) else {
         return Checked::Refused(Refusal::BadRow);
-    }
-    if !prime::is_prime(w) {
-        return Checked::Refused(Refusal::BadRow);
-    }
-    if w <= s {
-        return Checked::Refused(Refusal::BadRow);
-    }
-    let l = kp + s + h;
-    if l < w + 3 {
-        return Checked::Refused(Refusal::BadRow);
-    }
-    let b = w - s;
-    if util::int_div_ceil(b as u64, s as u64) >= s as u64 {
-        return Checked::Refused(Refusal::BadRow);
-    }
-    if l > 65535 {
-        return Checked::Refused(Refusal::BadRow);
-    }
-    let p = l - w;
-    let p1 = prime::first_prime(p);
+    };
     Checked::Value(Row {
         kp,
         j,

@@ -1,104 +1,34 @@
--- `headers::row::check` meets its contract.
+-- `headers::row::check` meets its contract: with the four numbers that follow, its five are a record.
 -- Assumes nothing.
-use native.Mathlib.Omega.{arith}
+use mathlib.Core.Path.{subst}
 use borrow.Author.Needs.{needs}
-use Rattle.headers.specs.Row.{Ranges, rowOf}
-use Rattle.headers.proofs.Tests.{granted, denied}
-use Rattle.headers.proofs.Accepted.{five, made-row, refused-row, worked-out}
+use Rattle.headers.specs.Row.{Obeys, Derives, rowOf}
+use Rattle.headers.proofs.Accepted.{complete, made-row, of-five, refused-row}
 use Rattle.headers.proofs.row.check.Statement.{statement}
 use Rattle.headers.proofs.row.check.Tie as tie
 
-in-range-requires : tie.Need-in-range-requires
-in-range-requires c κs = search needs
+derive-requires : tie.Need-derive-requires
+derive-requires c κs = search needs
+
+enum-known-l : tie.Need-enum-known-l
+enum-known-l c = search needs
+
+enum-told : tie.Need-enum-told
+enum-told c = search needs
 
 returns : tie.Need-returns
 returns c =
-    let a = c .before .before .args in
-    refused-row (rowOf (a .kp) (a .j) (a .s) (a .h) (a .w)) (λ o. denied (c .before .in-range .result) (c .if1 .taken) (c .before .in-range .ensures) (o .ranges))
-
--- past the first test each number is in its range
-ranged : (c : tie.Else1) → let a = c .before .before .args in Ranges (a .kp) (a .j) (a .s) (a .h) (a .w)
-ranged c = granted (c .before .in-range .result) (c .if1 .left) (c .before .in-range .ensures)
-
-is-prime-requires : tie.Need-is-prime-requires
-is-prime-requires c κs = let k = ranged c in omega arith
+    let a = c .before .before .before .args in
+    refused-row (rowOf (a .kp) (a .j) (a .s) (a .h) (a .w))
+    (subst (Derives (a .kp) (a .j) (a .s) (a .h) (a .w)) (c .enum-told .given .1) (c .before .before .derive .ensures))
 
 returns-2 : tie.Need-returns-2
 returns-2 c =
     let a = c .before .before .before .before .args in
-    refused-row (rowOf (a .kp) (a .j) (a .s) (a .h) (a .w)) (λ o. denied (c .before .is-prime .result) (c .if2 .taken) (c .before .is-prime .ensures) (o .w-prime))
-
-returns-3 : tie.Need-returns-3
-returns-3 c =
-    let a = c .before .before .before .before .before .args in
-    refused-row (rowOf (a .kp) (a .j) (a .s) (a .h) (a .w)) (λ o. omega (arith, o .b-low))
-
-add-l : tie.Need-add-l
-add-l c = let k = ranged (c .before .before .before) in omega arith
-
-add-l-2 : tie.Need-add-l-2
-add-l-2 c = let k = ranged (c .before .before .before) in omega arith
-
-add-if4 : tie.Need-add-if4
-add-if4 c = let k = ranged (c .before .before .before) in omega arith
-
-returns-4 : tie.Need-returns-4
-returns-4 c =
-    let a = c .before .before .before .before .before .before .args in
-    refused-row (rowOf (a .kp) (a .j) (a .s) (a .h) (a .w)) (λ o. omega (arith, o .p-low))
-
-sub-b : tie.Need-sub-b
-sub-b c = search needs
-
-cast-int-div-ceil : tie.Need-cast-int-div-ceil
-cast-int-div-ceil c = search needs
-
-int-div-ceil-requires : tie.Need-int-div-ceil-requires
-int-div-ceil-requires c κs = let k = ranged (c .before .before .before .before) in omega arith
-
-returns-5 : tie.Need-returns-5
-returns-5 c =
-    let a = c .before .before .before .before .before .before .before .before .args in
-    refused-row (rowOf (a .kp) (a .j) (a .s) (a .h) (a .w)) (λ o. omega (arith, o .b-high, c .before .int-div-ceil .ensures))
-
-returns-6 : tie.Need-returns-6
-returns-6 c =
-    let a = c .before .before .before .before .before .before .before .before .before .args in
-    refused-row (rowOf (a .kp) (a .j) (a .s) (a .h) (a .w)) (λ o. omega (arith, o .l-high))
-
-sub-p : tie.Need-sub-p
-sub-p c = search needs
-
-first-prime-requires : tie.Need-first-prime-requires
-first-prime-requires c κs = omega arith
-
-returns-7 : tie.Need-returns-7
-returns-7 c =
-    let a = c .before .before .before .before .before .before .before .before .before .before .args in
-    let tested = c .before .before .before .before .before .before in
-    let o =
-    five (ranged (tested .before .before)) (granted (tested .before .is-prime .result) (tested .if2 .left) (tested .before .is-prime .ensures))
-    (omega arith) (omega arith) (omega (arith, c .before .before .before .int-div-ceil .ensures)) (omega arith) in
-    made-row (rowOf (a .kp) (a .j) (a .s) (a .h) (a .w)) (worked-out (a .kp) (a .j) (a .s) (a .h) (a .w) (c .first-prime .ensures)) o
+    let n = c .before .l .given .0 in
+    let o : Obeys (record { kp = a .kp; j = a .j; s = a .s; h = a .h; w = a .w; l = n .0; p = n .1 .0; b = n .1 .1 .0; p1 = n .1 .1 .1 .0 }) =
+    subst (Derives (a .kp) (a .j) (a .s) (a .h) (a .w)) (c .before .l .given .1) (c .before .before .before .derive .ensures) in
+    made-row (rowOf (a .kp) (a .j) (a .s) (a .h) (a .w)) (complete (o .derived)) (of-five o)
 
 pub check-spec : {M : Type 1} → statement M
-check-spec =
-    tie.close
-    (tie.spec
-    in-range-requires
-    returns
-    is-prime-requires
-    returns-2
-    returns-3
-    add-l
-    add-l-2
-    add-if4
-    returns-4
-    sub-b
-    cast-int-div-ceil
-    int-div-ceil-requires
-    returns-5
-    returns-6
-    sub-p
-    first-prime-requires
-    returns-7)
+check-spec = tie.close (tie.spec derive-requires enum-known-l enum-told returns returns-2)
