@@ -11,6 +11,7 @@ ghost use Rattle.exports.specs.Call.{Called, Kept, Reports, code};
 ghost use Rattle.exports.specs.Numbers.{row};
 ghost use Rattle.exports.specs.Solving.{Solving, displayed, lacking, taken, verdictCode};
 use crate::values::hand;
+use crate::values::handed_row;
 use crate::values::told;
 use elimination::verdict::Verdict;
 use encoding::encoder;
@@ -43,17 +44,7 @@ pub extern "C" fn spoonripple_encode(
     ensures { λ r. ⌜ Reports done (λ a ys. Encodes (now (tables .entry)) (row k j s h w l p b p1) count t esi (now (intermediates .entry)) (now (out .entry)) ys a)
         r (now (out .exit)) ⌝ }
 {
-    let r = Row {
-        kp: k,
-        j,
-        s,
-        h,
-        w,
-        l,
-        p,
-        b,
-        p1,
-    };
+    let r = handed_row(k, j, s, h, w, l, p, b, p1);
     told(encoder::encode(r, tables, count, t, esi, intermediates, out))
 }
 
@@ -121,17 +112,7 @@ pub extern "C" fn spoonripple_solve(
         (now (rows .entry)) (now (values .entry)) (now (out .entry)) (now (shortfall .entry))
         (now (rows .exit)) (now (values .exit)) (now (out .exit)) (now (shortfall .exit)) n ⌝ }
 {
-    let r = Row {
-        kp: k,
-        j,
-        s,
-        h,
-        w,
-        l,
-        p,
-        b,
-        p1,
-    };
+    let r = handed_row(k, j, s, h, w, l, p, b, p1);
     if shortfall.len() < 1 {
         return unroomed(r, tables, count, t, esis, symbols, rows, values, out);
     }

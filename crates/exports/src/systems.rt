@@ -7,12 +7,12 @@ ghost use Rattle.constraints.specs.Answers.{HdpcRows, Walked};
 ghost use Rattle.builders.specs.Built.{Builds};
 ghost use Rattle.exports.specs.Call.{Reports};
 ghost use Rattle.exports.specs.Numbers.{row, tuple};
+use crate::values::handed_row;
 use crate::values::told;
 use crate::values::told_matrix;
 use crate::values::told_number;
 use builders::constraint_matrix;
 use constraints::constraint_matrix as rows;
-use headers::row::Row;
 use headers::tuple::Tuple;
 
 // The d + d1 places of a tuple's walk, in walk order, at the front of `list`.
@@ -37,17 +37,7 @@ pub extern "C" fn spoonripple_enc_indices(
 ) -> u32
     ensures { λ r. ⌜ Reports numberOutcome (λ n ys. Walked (row k j s h w l p b p1) (tuple d a «tuple_b» d1 a1 b1) (now (list .entry)) ys n) r (now (list .exit)) ⌝ }
 {
-    let r = Row {
-        kp: k,
-        j,
-        s,
-        h,
-        w,
-        l,
-        p,
-        b,
-        p1,
-    };
+    let r = handed_row(k, j, s, h, w, l, p, b, p1);
     let t = Tuple {
         d,
         a,
@@ -76,21 +66,8 @@ pub extern "C" fn spoonripple_hdpc_rows(
 ) -> u32
     ensures { λ r. ⌜ Reports done (λ a ys. HdpcRows (now (tables .entry)) (row k j s h w l p b p1) (now (store .entry)) ys a) r (now (store .exit)) ⌝ }
 {
-    told(rows::generate_hdpc_rows(
-        Row {
-            kp: k,
-            j,
-            s,
-            h,
-            w,
-            l,
-            p,
-            b,
-            p1,
-        },
-        tables,
-        store,
-    ))
+    let r = handed_row(k, j, s, h, w, l, p, b, p1);
+    told(rows::generate_hdpc_rows(r, tables, store))
 }
 
 // Rows of bits: LDPC, H of 0, one for each ISI.
@@ -112,17 +89,7 @@ pub extern "C" fn spoonripple_constraint_matrix(
     ensures { λ r. ⌜ Reports matrixOutcome (λ m ys. Builds (now (tables .entry)) (now (isis .entry)) (row k j s h w l p b p1) h k (now (words .entry)) ys m)
         r (now (words .exit)) ⌝ }
 {
-    let r = Row {
-        kp: k,
-        j,
-        s,
-        h,
-        w,
-        l,
-        p,
-        b,
-        p1,
-    };
+    let r = handed_row(k, j, s, h, w, l, p, b, p1);
     told_matrix(constraint_matrix::generate_constraint_matrix(r, tables, isis, words))
 }
 
@@ -145,16 +112,6 @@ pub extern "C" fn spoonripple_constraint_matrix_no_hdpc(
     ensures { λ r. ⌜ Reports matrixOutcome (λ m ys. Builds (now (tables .entry)) (now (isis .entry)) (row k j s h w l p b p1) 0 (k + h) (now (words .entry)) ys m)
         r (now (words .exit)) ⌝ }
 {
-    let r = Row {
-        kp: k,
-        j,
-        s,
-        h,
-        w,
-        l,
-        p,
-        b,
-        p1,
-    };
+    let r = handed_row(k, j, s, h, w, l, p, b, p1);
     told_matrix(constraint_matrix::generate_constraint_matrix_no_hdpc(r, tables, isis, words))
 }

@@ -9,6 +9,7 @@ ghost use Rattle.exports.specs.Numbers.{row, rowNumbers, tupleNumbers};
 use crate::values::hand;
 use crate::values::hand_number;
 use crate::values::hand_one;
+use crate::values::handed_row;
 use field::refusal::number;
 use headers::deg;
 use headers::ids;
@@ -17,7 +18,6 @@ use headers::ids::Shifted;
 use headers::rng;
 use headers::row;
 use headers::row::Checked;
-use headers::row::Row;
 use headers::tuple;
 use headers::tuple::Generated;
 
@@ -84,21 +84,8 @@ pub extern "C" fn spoonripple_isi(
 ) -> u32
     ensures { λ r. ⌜ Called (thenRoomed (now (out .entry)) (listed single (isiAnswer (row k j s h w l p b p1) count esi))) (now (out .entry)) (now (out .exit)) r ⌝ }
 {
-    match ids::isi_of(
-        Row {
-            kp: k,
-            j,
-            s,
-            h,
-            w,
-            l,
-            p,
-            b,
-            p1,
-        },
-        count,
-        Esi(esi),
-    ) {
+    let r = handed_row(k, j, s, h, w, l, p, b, p1);
+    match ids::isi_of(r, count, Esi(esi)) {
         Shifted::Value(x) => hand_one(ids::number(x) as u64, out),
         Shifted::Refused(why) => number(why),
     }
@@ -123,22 +110,9 @@ pub extern "C" fn spoonripple_tuple(
     ensures { λ r. ⌜ Called (thenRoomed (now (out .entry)) (listed tupleNumbers (tupleAnswer (row k j s h w l p b p1) (now (tables .entry)) isi)))
         (now (out .entry)) (now (out .exit)) r ⌝ }
 {
+    let r = handed_row(k, j, s, h, w, l, p, b, p1);
     let x = ids::beneath::row_number(isi);
-    match tuple::intermediate_tuple(
-        Row {
-            kp: k,
-            j,
-            s,
-            h,
-            w,
-            l,
-            p,
-            b,
-            p1,
-        },
-        tables,
-        x,
-    ) {
+    match tuple::intermediate_tuple(r, tables, x) {
         Generated::Value(t) => {
             let values = [
                 t.d as u64,

@@ -1,4 +1,4 @@
-// How an answer reaches the caller.
+// How a row comes from the caller, and an answer reaches it.
 ghost use mathlib.Core.Path.{_≡_};
 ghost use mathlib.Core.List.{[], _∷_};
 ghost use lib.ListN.{length};
@@ -7,13 +7,32 @@ ghost use Rattle.headers.specs.Number.{numberOutcome};
 ghost use Rattle.slab.specs.Slab.{slabOutcome};
 ghost use Rattle.stores.specs.Matrix.{counted, matrixOutcome};
 ghost use Rattle.exports.specs.Call.{Called, code, listed, single, roomed, thenRoomed};
+ghost use Rattle.exports.specs.Numbers.{row};
 use field::octet;
 use field::refusal::Answer;
 use field::refusal::number;
 use headers::number::Number;
+use headers::row::Row;
 use slab::symbol_slab;
 use stores::matrix;
 use stores::matrix::Count;
+
+// The record of a row as C hands it over: any nine numbers. The call below verifies them.
+pub fn handed_row(k: u32, j: u32, s: u32, h: u32, w: u32, l: u32, p: u32, b: u32, p1: u32) -> Row
+    ensures { λ r. ⌜ r ≡ row k j s h w l p b p1 ⌝ }
+{
+    Row {
+        kp: k,
+        j,
+        s,
+        h,
+        w,
+        l,
+        p,
+        b,
+        p1,
+    }
+}
 
 pub fn told(a: Answer) -> u32
     ensures { λ r. ⌜ r ≡ code (done a) ⌝ }

@@ -4,6 +4,9 @@ use borrow.Author.Needs.{needs}
 use Rattle.exports.proofs.blocks.spoonripple_encode.Statement.{statement}
 use Rattle.exports.proofs.blocks.spoonripple_encode.Tie as tie
 
+handed-row-requires : tie.Need-handed-row-requires
+handed-row-requires c κs = search needs
+
 encode-requires : tie.Need-encode-requires
 encode-requires c κs = search needs
 
@@ -16,8 +19,8 @@ same-length c = search needs
 returns : tie.Need-returns
 returns c =
     let w = c .before .before .before .encode in
-    record { below = w .result; meets = w .ensures; number = c .told .ensures }
+    record { below = w .result; meets = rw (c .before .before .before .before .before .handed-row .ensures) at (w .ensures); number = c .told .ensures }
 
 pub spoonripple-encode-spec : {M : Type 1} → statement M
 spoonripple-encode-spec =
-    tie.close (tie.spec encode-requires told-requires same-length returns)
+    tie.close (tie.spec handed-row-requires encode-requires told-requires same-length returns)

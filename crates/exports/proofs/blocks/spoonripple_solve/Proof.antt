@@ -7,6 +7,9 @@ use Rattle.exports.specs.Numbers.{row}
 use Rattle.exports.proofs.blocks.spoonripple_solve.Statement.{statement}
 use Rattle.exports.proofs.blocks.spoonripple_solve.Tie as tie
 
+handed-row-requires : tie.Need-handed-row-requires
+handed-row-requires c κs = search needs
+
 unroomed-requires : tie.Need-unroomed-requires
 unroomed-requires c κs = search needs
 
@@ -22,8 +25,11 @@ same-length-3 c = search needs
 returns : tie.Need-returns
 returns c =
     let at = c .before .before .before .before .before .before in
-    let a = at .before .before .before .before .before .before .before .before .before .before .before .before .args in
-    told-unroomed (row (a .k) (a .j) (a .s) (a .h) (a .w) (a .l) (a .p) (a .b) (a .p1)) (now (a .tables)) (a .count) (a .t) (now (a .esis)) (now (a .symbols)) (now (a .rows)) (now (a .values)) (now (a .out)) (now (a .shortfall)) (at .unroomed .last .1 .1 .1 .1 .1 .1 .0) (at .unroomed .last .1 .1 .1 .1 .1 .1 .1 .0) (at .unroomed .last .1 .1 .1 .1 .1 .1 .1 .1 .0) (at .before .before .before .before .if1 .taken) (at .unroomed .ensures .0) (at .unroomed .ensures .1)
+    let a = at .before .before .before .before .before .before .before .before .before .before .before .before .before .args in
+    let u = rw (at .before .before .before .before .before .handed-row .ensures) at (at .unroomed .ensures) in
+    let z = at .unroomed .last .1 .1 .1 .1 .1 .1 in
+    told-unroomed (row (a .k) (a .j) (a .s) (a .h) (a .w) (a .l) (a .p) (a .b) (a .p1)) (now (a .tables)) (a .count) (a .t) (now (a .esis)) (now (a .symbols))
+    (now (a .rows)) (now (a .values)) (now (a .out)) (now (a .shortfall)) (z .0) (z .1 .0) (z .1 .1 .0) (at .before .before .before .before .if1 .taken) (u .0) (u .1)
 
 solve-requires : tie.Need-solve-requires
 solve-requires c κs = search needs
@@ -55,8 +61,13 @@ same-length-7 c = search needs
 returns-2 : tie.Need-returns-2
 returns-2 c =
     let at = c .before .before .before .before .before .before .before .before .before .before .before .before .before in
-    let a = at .before .before .before .before .before .before .before .before .before .before .before .before .args in
-    told-given (row (a .k) (a .j) (a .s) (a .h) (a .w) (a .l) (a .p) (a .b) (a .p1)) (now (a .tables)) (a .count) (a .t) (now (a .esis)) (now (a .symbols)) (now (a .rows)) (now (a .values)) (now (a .out)) (now (a .shortfall)) (at .solve .last .1 .1 .1 .1 .1 .1 .0) (at .solve .last .1 .1 .1 .1 .1 .1 .1 .0) (at .solve .last .1 .1 .1 .1 .1 .1 .1 .1 .0) (c .before .before .tell .last .1 .0) _ _ (at .before .before .before .before .if1 .left) (at .solve .ensures) (c .before .before .before .before .before .v .given .1) (c .before .before .tell .ensures)
+    let a = at .before .before .before .before .before .before .before .before .before .before .before .before .before .args in
+    let u = rw (at .before .before .before .before .before .handed-row .ensures) at (at .solve .ensures) in
+    let z = at .solve .last .1 .1 .1 .1 .1 .1 in
+    let told = c .before .before .tell in
+    told-given (row (a .k) (a .j) (a .s) (a .h) (a .w) (a .l) (a .p) (a .b) (a .p1)) (now (a .tables)) (a .count) (a .t) (now (a .esis)) (now (a .symbols))
+    (now (a .rows)) (now (a .values)) (now (a .out)) (now (a .shortfall)) (z .0) (z .1 .0) (z .1 .1 .0) (told .last .1 .0) _ _
+    (at .before .before .before .before .if1 .left) u (c .before .before .before .before .before .v .given .1) (told .ensures)
 
 same-length-8 : tie.Need-same-length-8
 same-length-8 c = search needs
@@ -70,13 +81,17 @@ same-length-10 c = search needs
 returns-3 : tie.Need-returns-3
 returns-3 c =
     let at = c .before .before .before .before .before .before .before .before .before .before in
-    let a = at .before .before .before .before .before .before .before .before .before .before .before .before .args in
-    told-refused (row (a .k) (a .j) (a .s) (a .h) (a .w) (a .l) (a .p) (a .b) (a .p1)) (now (a .tables)) (a .count) (a .t) (now (a .esis)) (now (a .symbols)) (now (a .rows)) (now (a .values)) (now (a .out)) (now (a .shortfall)) (at .solve .last .1 .1 .1 .1 .1 .1 .0) (at .solve .last .1 .1 .1 .1 .1 .1 .1 .0) (at .solve .last .1 .1 .1 .1 .1 .1 .1 .1 .0) _ _ (at .solve .ensures) (c .before .before .why .given .1) (c .number .ensures)
+    let a = at .before .before .before .before .before .before .before .before .before .before .before .before .before .args in
+    let u = rw (at .before .before .before .before .before .handed-row .ensures) at (at .solve .ensures) in
+    let z = at .solve .last .1 .1 .1 .1 .1 .1 in
+    told-refused (row (a .k) (a .j) (a .s) (a .h) (a .w) (a .l) (a .p) (a .b) (a .p1)) (now (a .tables)) (a .count) (a .t) (now (a .esis)) (now (a .symbols))
+    (now (a .rows)) (now (a .values)) (now (a .out)) (now (a .shortfall)) (z .0) (z .1 .0) (z .1 .1 .0) _ _ u (c .before .before .why .given .1) (c .number .ensures)
 
 pub spoonripple-solve-spec : {M : Type 1} → statement M
 spoonripple-solve-spec =
     tie.close
     (tie.spec
+    handed-row-requires
     unroomed-requires
     same-length
     same-length-2

@@ -4,6 +4,9 @@ use borrow.Author.Needs.{needs}
 use Rattle.exports.proofs.systems.spoonripple_constraint_matrix_no_hdpc.Statement.{statement}
 use Rattle.exports.proofs.systems.spoonripple_constraint_matrix_no_hdpc.Tie as tie
 
+handed-row-requires : tie.Need-handed-row-requires
+handed-row-requires c κs = search needs
+
 generate-constraint-matrix-no-hdpc-requires : tie.Need-generate-constraint-matrix-no-hdpc-requires
 generate-constraint-matrix-no-hdpc-requires c κs = search needs
 
@@ -16,8 +19,8 @@ same-length c = search needs
 returns : tie.Need-returns
 returns c =
     let w = c .before .before .before .generate-constraint-matrix-no-hdpc in
-    record { below = w .result; meets = w .ensures; number = c .told-matrix .ensures }
+    record { below = w .result; meets = rw (c .before .before .before .before .before .handed-row .ensures) at (w .ensures); number = c .told-matrix .ensures }
 
 pub spoonripple-constraint-matrix-no-hdpc-spec : {M : Type 1} → statement M
 spoonripple-constraint-matrix-no-hdpc-spec =
-    tie.close (tie.spec generate-constraint-matrix-no-hdpc-requires told-matrix-requires same-length returns)
+    tie.close (tie.spec handed-row-requires generate-constraint-matrix-no-hdpc-requires told-matrix-requires same-length returns)

@@ -4,6 +4,9 @@ use borrow.Author.Needs.{needs}
 use Rattle.exports.proofs.systems.spoonripple_hdpc_rows.Statement.{statement}
 use Rattle.exports.proofs.systems.spoonripple_hdpc_rows.Tie as tie
 
+handed-row-requires : tie.Need-handed-row-requires
+handed-row-requires c κs = search needs
+
 generate-hdpc-rows-requires : tie.Need-generate-hdpc-rows-requires
 generate-hdpc-rows-requires c κs = search needs
 
@@ -16,8 +19,8 @@ same-length c = search needs
 returns : tie.Need-returns
 returns c =
     let w = c .before .before .before .generate-hdpc-rows in
-    record { below = w .result; meets = w .ensures; number = c .told .ensures }
+    record { below = w .result; meets = rw (c .before .before .before .before .before .handed-row .ensures) at (w .ensures); number = c .told .ensures }
 
 pub spoonripple-hdpc-rows-spec : {M : Type 1} → statement M
 spoonripple-hdpc-rows-spec =
-    tie.close (tie.spec generate-hdpc-rows-requires told-requires same-length returns)
+    tie.close (tie.spec handed-row-requires generate-hdpc-rows-requires told-requires same-length returns)

@@ -8,6 +8,9 @@ use borrow.Author.Needs.{needs}
 use Rattle.exports.proofs.tuples.spoonripple_isi.Statement.{statement}
 use Rattle.exports.proofs.tuples.spoonripple_isi.Tie as tie
 
+handed-row-requires : tie.Need-handed-row-requires
+handed-row-requires c κs = search needs
+
 isi-of-requires : tie.Need-isi-of-requires
 isi-of-requires c κs = search needs
 
@@ -32,20 +35,24 @@ number-requires-2 c κs = search needs
 same-length : tie.Need-same-length
 same-length c = search needs
 
+-- what `isi_of` answered of the record that was handed over
 returns : tie.Need-returns
 returns c =
     let found = c .before .before .before .before .before .before in
-    called-of single (sym (ap isiOutcome (found .x .given .1)) ∙ found .before .before .isi-of .ensures) (rw (c .before .before .before .before .number .ensures) at (c .before .before .hand-one .ensures))
+    let given = rw (found .before .before .before .handed-row .ensures) at (found .before .before .isi-of .ensures) in
+    called-of single (sym (ap isiOutcome (found .x .given .1)) ∙ given) (rw (c .before .before .before .before .number .ensures) at (c .before .before .hand-one .ensures))
 
 returns-2 : tie.Need-returns-2
 returns-2 c =
     let found = c .before .before in
-    called-refused single (sym (ap isiOutcome (found .why .given .1)) ∙ found .before .before .isi-of .ensures) (c .number2 .ensures) refl
+    let given = rw (found .before .before .before .handed-row .ensures) at (found .before .before .isi-of .ensures) in
+    called-refused single (sym (ap isiOutcome (found .why .given .1)) ∙ given) (c .number2 .ensures) refl
 
 pub spoonripple-isi-spec : {M : Type 1} → statement M
 spoonripple-isi-spec =
     tie.close
     (tie.spec
+    handed-row-requires
     isi-of-requires
     enum-known-x
     number-requires

@@ -8,6 +8,9 @@ use Rattle.headers.specs.Tuples.{tupleOutcome}
 use Rattle.exports.proofs.tuples.spoonripple_tuple.Statement.{statement}
 use Rattle.exports.proofs.tuples.spoonripple_tuple.Tie as tie
 
+handed-row-requires : tie.Need-handed-row-requires
+handed-row-requires c κs = search needs
+
 row-number-requires : tie.Need-row-number-requires
 row-number-requires c κs = search needs
 
@@ -50,22 +53,26 @@ number-requires c κs = search needs
 same-length : tie.Need-same-length
 same-length c = search needs
 
+-- what the generator answered of the record and the number that were handed over
 returns : tie.Need-returns
 returns c =
     let found = c .before .before .before .before .before .before .before .before .before .before .before .before in
-    rw (← found .before .before .before .row-number .ensures)
-    (called-of tupleNumbers (sym (ap tupleOutcome (found .t .given .1)) ∙ found .before .before .intermediate-tuple .ensures) (c .before .before .hand .ensures))
+    let handed = found .before .before .before .before .handed-row .ensures in
+    let given = rw (handed, found .before .before .before .row-number .ensures) at (found .before .before .intermediate-tuple .ensures) in
+    called-of tupleNumbers (sym (ap tupleOutcome (found .t .given .1)) ∙ given) (c .before .before .hand .ensures)
 
 returns-2 : tie.Need-returns-2
 returns-2 c =
     let found = c .before .before in
-    rw (← found .before .before .before .row-number .ensures)
-    (called-refused tupleNumbers (sym (ap tupleOutcome (found .why .given .1)) ∙ found .before .before .intermediate-tuple .ensures) (c .number .ensures) refl)
+    let handed = found .before .before .before .before .handed-row .ensures in
+    let given = rw (handed, found .before .before .before .row-number .ensures) at (found .before .before .intermediate-tuple .ensures) in
+    called-refused tupleNumbers (sym (ap tupleOutcome (found .why .given .1)) ∙ given) (c .number .ensures) refl
 
 pub spoonripple-tuple-spec : {M : Type 1} → statement M
 spoonripple-tuple-spec =
     tie.close
     (tie.spec
+    handed-row-requires
     row-number-requires
     intermediate-tuple-requires
     enum-known-t
