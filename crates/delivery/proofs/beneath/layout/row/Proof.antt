@@ -26,7 +26,8 @@ check-requires c κs = search needs
 returns : tie.Need-returns
 unfolding rowIn
 returns c =
-    rw (c .before .before .before .before .before .word .ensures, c .before .before .before .before .word2 .ensures, c .before .before .before .word3 .ensures, c .before .before .word4 .ensures, c .before .word5 .ensures) at
+    let w = c .before .before .before in
+    rw (w .before .before .word .ensures, w .before .word2 .ensures, w .word3 .ensures, c .before .before .word4 .ensures, c .before .word5 .ensures) at
     (c .check .ensures)
 
 pub row-spec : {M : Type 1} → statement M

@@ -1,9 +1,12 @@
 -- `delivery::beneath::receiver::attempt` meets its contract.
 -- Assumes nothing.
-use mathlib.Core.Path.{sym, ap}
-use Prim.Native.Nat.{ℕ, _*_}
+use mathlib.Core.Path.{_≡_, sym, ap}
+use mathlib.Core.List.{List}
+use Prim.Native.Nat.{ℕ, _*_, _≤_}
 use native.Mathlib.Omega.{arith}
+use lib.ListN.{length}
 use lib.Seq.{length-take-le}
+use Rattle.headers.specs.Row.{lOf}
 use Rattle.delivery.proofs.Settling.{set-fits, block-fits, never-refused, decoded}
 use borrow.Author.Needs.{needs}
 use Rattle.delivery.proofs.beneath.receiver.attempt.Statement.{statement}
@@ -15,33 +18,46 @@ solve-requires c κs = search needs
 cast-l : tie.Need-cast-l
 cast-l c = search needs
 
+-- from the solver's answer back to the entry; L times T octets, of the record's own L, and the store of the set that has them
+abbrev entry : tie.After-solve → tie.Start
+entry c = c .before .before .before .before .before .before .before .before .before .before .before
+
+abbrev octets : tie.After-solve → ℕ
+octets c = entry c .args .r .l * entry c .args .t
+
+abbrev set : tie.After-solve → List ℕ
+set c = c .solve .last .1 .1 .1 .1 .1 .1 .1 .1 .0
+
+octets-is : (c : tie.After-solve) → octets c ≡ lOf (entry c .args .r) * entry c .args .t
+octets-is c = ap (λ (x : ℕ). x * entry c .args .t) (entry c .pre .0 .rules .derived .l-fits)
+
+in-set : (c : tie.After-solve) → octets c ≤ length (set c)
+in-set c = let s = entry c in omega (arith, octets-is c, set-fits (s .pre .0), c .solve .kept .1 .1 .1 .1 .1 .1 .1 .1 .0, s .pre .1 .set-room)
+
 mul-l : tie.Need-mul-l
-mul-l c =
-    let s = c .before .before .before .before .before .before .before .before .before .before .before .before .before .before .before .before .before .before in
-    let e = ap (λ (x : ℕ). x * s .args .t) (s .pre .0 .rules .derived .l-fits) in
-    omega (arith, e, set-fits (s .pre .0))
+mul-l c = let v = c .before .before .before .before .before .before .before in omega (arith, octets-is v, set-fits (entry v .pre .0))
 
 enum-known-answer : tie.Need-enum-known-answer
 enum-known-answer c = search needs
 
 slice-reshare-prefix-leave : tie.Need-slice-reshare-prefix-leave
-slice-reshare-prefix-leave c =
-    let s = c .before .before .before .before .before .before .before .before .before .before .before .before .before .before .before .before .before .before .before .before .before in
-    let e = ap (λ (x : ℕ). x * s .args .t) (s .pre .0 .rules .derived .l-fits) in
-    omega (arith, e, set-fits (s .pre .0), c .before .before .before .before .before .before .before .before .before .before .solve .kept .1 .1 .1 .1 .1 .1 .1 .1 .0, s .pre .1 .set-room)
+slice-reshare-prefix-leave c = in-set (c .before .before .before .before .before .before .before .before .before .before)
 
 slice-aggregate-leave : tie.Need-slice-aggregate-leave
-slice-aggregate-leave c =
-    let s = c .before .before .before .before .before .before .before .before .before .before .before .before .before .before .before .before .before .before .before .before .before .before in
-    let e = ap (λ (x : ℕ). x * s .args .t) (s .pre .0 .rules .derived .l-fits) in
-    sym (length-take-le (s .args .r .l * s .args .t) (c .before .before .before .before .before .before .before .before .before .before .before .solve .last .1 .1 .1 .1 .1 .1 .1 .1 .0) (omega (arith, e, set-fits (s .pre .0), c .before .before .before .before .before .before .before .before .before .before .before .solve .kept .1 .1 .1 .1 .1 .1 .1 .1 .0, s .pre .1 .set-room)))
+slice-aggregate-leave c = let v = c .before .before .before .before .before .before .before .before .before .before .before in sym (length-take-le (octets v) (set v) (in-set v))
 
 leave-requires : tie.Need-leave-requires
 leave-requires c κs =
-    let s = c .before .before .before .before .before .before .before .before .before .before .before .before .before .before .before .before .before .before .before .before .before .before .before in
-    let e = ap (λ (x : ℕ). x * s .args .t) (s .pre .0 .rules .derived .l-fits) in
-    let q = length-take-le (s .args .r .l * s .args .t) (c .before .before .before .before .before .before .before .before .before .before .before .before .solve .last .1 .1 .1 .1 .1 .1 .1 .1 .0) (omega (arith, e, set-fits (s .pre .0), c .before .before .before .before .before .before .before .before .before .before .before .before .solve .kept .1 .1 .1 .1 .1 .1 .1 .1 .0, s .pre .1 .set-room)) in
-    record { rules = s .pre .0 .rules; tables = s .pre .0 .tables; k-high = s .pre .0 .k-high; t-low = s .pre .0 .t-low; symbols = omega (arith, e, q); room = omega (arith, block-fits (s .pre .0), s .pre .1 .out-room) }
+    let v = c .before .before .before .before .before .before .before .before .before .before .before .before in
+    let h = entry v .pre .0 in
+    record {
+      rules = h .rules;
+      tables = h .tables;
+      k-high = h .k-high;
+      t-low = h .t-low;
+      symbols = omega (arith, octets-is v, length-take-le (octets v) (set v) (in-set v));
+      room = omega (arith, block-fits h, entry v .pre .1 .out-room);
+    }
 
 enum-known-answer-2 : tie.Need-enum-known-answer-2
 enum-known-answer-2 c = search needs
@@ -60,11 +76,14 @@ same-length-4 c = search needs
 
 returns : tie.Need-returns
 returns c =
-    let s = c .before .before .before .before .before .before .before .before .before .before .before .before .before .before .before .before .before .before .before .before .before .before .before .before .before .before in
-    let e = ap (λ (x : ℕ). x * s .args .t) (s .pre .0 .rules .derived .l-fits) in
-    let a = s .args in
-    let v = c .before .before .before .before .before .before .before .before .before .before .before .before .before .before .before .solve in
-    decoded (a .r) (a .tables .now) (a .k) (a .t) (a .f) (a .esis .now) (a .symbols .now) (a .rows .now) (a .values .now) (a .set .now) (v .last .1 .1 .1 .1 .1 .1 .0) (v .last .1 .1 .1 .1 .1 .1 .1 .0) (v .last .1 .1 .1 .1 .1 .1 .1 .1 .0) (a .out .now) (c .before .before .leave .last .1 .1 .1 .1 .1 .1 .0) (v .result) (c .before .before .before .before .before .before .answer .given .0 .0) (s .args .r .l * a .t) e (v .ensures) (c .before .before .before .before .before .before .answer .given .1) (c .before .before .leave .ensures)
+    let v = c .before .before .before .before .before .before .before .before .before .before .before .before .before .before .before in
+    let a = entry v .args in
+    let z = v .solve .last .1 .1 .1 .1 .1 .1 in
+    let told = c .before .before .before .before .before .before .answer .given in
+    let left = c .before .before .leave in
+    decoded (a .r) (a .tables .now) (a .k) (a .t) (a .f) (a .esis .now) (a .symbols .now) (a .rows .now) (a .values .now) (a .set .now)
+    (z .0) (z .1 .0) (set v) (a .out .now) (left .last .1 .1 .1 .1 .1 .1 .0) (v .solve .result) (told .0 .0) (octets v) (octets-is v) (v .solve .ensures)
+    (told .1) (left .ensures)
 
 same-length-5 : tie.Need-same-length-5
 same-length-5 c = search needs
@@ -77,10 +96,13 @@ same-length-7 c = search needs
 
 returns-2 : tie.Need-returns-2
 returns-2 c =
-    let s = c .before .before .before .before .before .before .before .before .before .before .before .before .before .before .before .before .before .before .before .before .before in
+    let v = c .before .before .before .before .before .before .before .before .before .before in
+    let s = entry v in
     let a = s .args in
-    let v = c .before .before .before .before .before .before .before .before .before .before .solve in
-    never-refused (s .pre .0) (a .rows .now) (a .values .now) (a .set .now) (v .last .1 .1 .1 .1 .1 .1 .0) (v .last .1 .1 .1 .1 .1 .1 .1 .0) (v .last .1 .1 .1 .1 .1 .1 .1 .1 .0) (v .result) (c .before .answer2 .given .0 .0) (s .pre .1) (v .ensures) (c .before .answer2 .given .1)
+    let z = v .solve .last .1 .1 .1 .1 .1 .1 in
+    let told = c .before .answer2 .given in
+    never-refused (s .pre .0) (a .rows .now) (a .values .now) (a .set .now) (z .0) (z .1 .0) (set v) (v .solve .result) (told .0 .0) (s .pre .1)
+    (v .solve .ensures) (told .1)
 
 pub attempt-spec : {M : Type 1} → statement M
 attempt-spec =

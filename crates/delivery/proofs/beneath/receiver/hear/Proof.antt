@@ -104,26 +104,42 @@ read-packets-requires c κs =
       reach (octets n) (slice-aggregate-read-packets-2 c),
     )
 
--- what was read: the ids and the symbols have room in their stores, and are those of the delivery
-esis-long : (c : tie.After-read-packets) → c .before .before .before .before .before .before .count .result ≤ length (c .read-packets .last .1 .1 .1 .0)
-esis-long c = reach (few (c .before .before .before .before .before .before)) (slice-aggregate-read-packets (c .before .before) ∙ sym (c .read-packets .kept .1 .1 .1 .0))
+-- what was read: how many ids, and octets of symbols; they have room in their stores, and are those of the delivery
+abbrev counted : tie.After-read-packets → tie.After-count
+counted c = c .before .before .before .before .before .before
 
-symbols-long : (c : tie.After-read-packets)
-    → c .before .before .before .before .before .before .count .result * c .before .before .before .before .before .before .before .before .before .before .before .before .info .result .«symbol_size» ≤ length (c .read-packets .last .1 .1 .1 .1 .0)
-symbols-long c = reach (octets (c .before .before .before .before .before .before)) (slice-aggregate-read-packets-2 (c .before) ∙ sym (c .read-packets .kept .1 .1 .1 .1 .0))
+abbrev owned : tie.After-read-packets → tie.After-known-told
+owned c = c .before .before .before .before .before .before .before .before
 
-esis-in : (c : tie.After-read-packets) → take (c .before .before .before .before .before .before .count .result) (c .read-packets .last .1 .1 .1 .0) ≡ esisOf (bytes (c .before .before .before .before .before .before .before .before))
+abbrev packets : tie.After-read-packets → ℕ
+packets c = counted c .count .result
+
+abbrev bulk : tie.After-read-packets → ℕ
+bulk c = packets c * owned c .before .before .before .before .info .result .«symbol_size»
+
+abbrev ids : tie.After-read-packets → List ℕ
+ids c = c .read-packets .last .1 .1 .1 .0
+
+abbrev symbols : tie.After-read-packets → List ℕ
+symbols c = c .read-packets .last .1 .1 .1 .1 .0
+
+esis-long : (c : tie.After-read-packets) → packets c ≤ length (ids c)
+esis-long c = reach (few (counted c)) (slice-aggregate-read-packets (c .before .before) ∙ sym (c .read-packets .kept .1 .1 .1 .0))
+
+symbols-long : (c : tie.After-read-packets) → bulk c ≤ length (symbols c)
+symbols-long c = reach (octets (counted c)) (slice-aggregate-read-packets-2 (c .before) ∙ sym (c .read-packets .kept .1 .1 .1 .1 .0))
+
+esis-in : (c : tie.After-read-packets) → take (packets c) (ids c) ≡ esisOf (bytes (owned c))
 esis-in c =
-    let n = c .before .before .before .before .before .before in
-    let r = c .before .before .before .before .before .before .before .before in
-    esis-are (bytes r) (good r) (t-is r) (n .count .ensures) (c .read-packets .ensures .0) (reach (few n) (slice-aggregate-read-packets (c .before .before)))
+    let r = owned c in
+    let room = reach (few (counted c)) (slice-aggregate-read-packets (c .before .before)) in
+    esis-are (bytes r) (good r) (t-is r) (counted c .count .ensures) (c .read-packets .ensures .0) room
 
-symbols-in : (c : tie.After-read-packets)
-    → take (c .before .before .before .before .before .before .count .result * c .before .before .before .before .before .before .before .before .before .before .before .before .info .result .«symbol_size») (c .read-packets .last .1 .1 .1 .1 .0) ≡ symbolsOf (bytes (c .before .before .before .before .before .before .before .before))
+symbols-in : (c : tie.After-read-packets) → take (bulk c) (symbols c) ≡ symbolsOf (bytes (owned c))
 symbols-in c =
-    let n = c .before .before .before .before .before .before in
-    let r = c .before .before .before .before .before .before .before .before in
-    symbols-are (bytes r) (good r) (t-is r) (n .count .ensures) (c .read-packets .ensures .1) (reach (octets n) (slice-aggregate-read-packets-2 (c .before)))
+    let r = owned c in
+    let room = reach (octets (counted c)) (slice-aggregate-read-packets-2 (c .before)) in
+    symbols-are (bytes r) (good r) (t-is r) (counted c .count .ensures) (c .read-packets .ensures .1) room
 
 slice-aggregate-decode : tie.Need-slice-aggregate-decode
 slice-aggregate-decode c = slice-aggregate-read-tables (c .before .before .before .before .before .before .before .before) ∙ sym (c .before .before .before .before .before .before .before .read-tables .kept .1 .0)
@@ -132,44 +148,45 @@ array-share-prefix-esis : tie.Need-array-share-prefix-esis
 array-share-prefix-esis c = esis-long (c .before .before .before)
 
 slice-aggregate-decode-2 : tie.Need-slice-aggregate-decode-2
-slice-aggregate-decode-2 c =
-    let p = c .before .before .before .before in
-    sym (length-take-le (p .before .before .before .before .before .before .count .result) (p .read-packets .last .1 .1 .1 .0) (esis-long p))
+slice-aggregate-decode-2 c = let p = c .before .before .before .before in sym (length-take-le (packets p) (ids p) (esis-long p))
 
 mul-symbols : tie.Need-mul-symbols
-mul-symbols c = let r = c .before .before .before .before .before .before .before .before .before .before .before .before in record { fits = octets-64 (bytes r) (good r) (t-is r) (c .before .before .before .before .before .before .before .before .before .before .count .ensures) }
+mul-symbols c =
+    let p = c .before .before .before .before in
+    let r = owned p in
+    record { fits = octets-64 (bytes r) (good r) (t-is r) (counted p .count .ensures) }
 
 array-share-prefix-symbols : tie.Need-array-share-prefix-symbols
 array-share-prefix-symbols c = symbols-long (c .before .before .before .before)
 
 slice-aggregate-decode-3 : tie.Need-slice-aggregate-decode-3
-slice-aggregate-decode-3 c =
-    let p = c .before .before .before .before .before in
-    let n = p .before .before .before .before .before .before .count .result * p .before .before .before .before .before .before .before .before .before .before .before .before .info .result .«symbol_size» in
-    sym (length-take-le n (p .read-packets .last .1 .1 .1 .1 .0) (symbols-long p))
+slice-aggregate-decode-3 c = let p = c .before .before .before .before .before in sym (length-take-le (bulk p) (symbols p) (symbols-long p))
+
+octet : (c : tie.After-known-told) → (x : ℕ) → getD (bytes c) x 0 < 256
+octet c x = omega (arith, c .before .before .before .before .before .before .shared-slice-known .given x)
 
 decode-requires : tie.Need-decode-requires
 decode-requires c κs =
     let p = c .before .before .before .before .before .before in
     let v = c .before .before .before .before .before .before .before .before .before .before in
-    let r = c .before .before .before .before .before .before .before .before .before .before .before .before .before .before in
-    let octet : (x : ℕ) → getD (bytes r) x 0 < 256 = λ x. omega (arith, c .before .before .before .before .before .before .before .before .before .before .before .before .before .before .before .before .before .before .before .before .shared-slice-known .given x) in
+    let r = owned p in
     let all = v .read-tables .kept .1 .0 ∙ sym (slice-aggregate-read-tables (v .before)) in
-    (held-as (row-is r) (k-is (c .before .before .before .before .before .before .before .before .before .before .before .before .before)) (t-is r) (esis-in p) (symbols-in p) (holdable (bytes r) _ (good r) octet all), entry r .pre .1)
+    let held = holdable (bytes r) _ (good r) (octet r) all in
+    (held-as (row-is r) (k-is (counted p .before)) (t-is r) (esis-in p) (symbols-in p) held, entry r .pre .1)
 
 same-length : tie.Need-same-length
 same-length c = c .before .before .decode .kept .1 .1 .1 .1 .1 .1 .1 .0
 
 returns-2 : tie.Need-returns-2
 returns-2 c =
-    let d = c .before .before in
+    let d = c .before .before .decode in
     let p = c .before .before .before .before .before .before .before .before .before in
     let v = c .before .before .before .before .before .before .before .before .before .before .before .before .before in
-    let r = c .before .before .before .before .before .before .before .before .before .before .before .before .before .before .before .before .before in
+    let r = owned p in
     let tables = tables-are (bytes r) (v .read-tables .ensures) (sym (slice-aggregate-read-tables (v .before))) in
     let f = ap (λ (o : ObjectTransmissionInformation). o .«transfer_length») (r .before .before .before .before .info .ensures) in
-    delivered (bytes r) (entry r .args .out .now) (d .decode .last .1 .1 .1 .1 .1 .1 .1 .0) (d .decode .result) (row-is r) tables (k-is (c .before .before .before .before .before .before .before .before .before .before .before .before .before .before .before .before)) (t-is r) f
-    (esis-in p) (symbols-in p) (d .decode .ensures)
+    delivered (bytes r) (entry r .args .out .now) (d .last .1 .1 .1 .1 .1 .1 .1 .0) (d .result) (row-is r) tables (k-is (counted p .before)) (t-is r) f
+    (esis-in p) (symbols-in p) (d .ensures)
 
 pub hear-spec : {M : Type 1} → statement M
 hear-spec =

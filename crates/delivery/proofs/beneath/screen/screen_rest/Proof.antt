@@ -1,8 +1,11 @@
 -- `delivery::beneath::screen::screen_rest` meets its contract.
 -- Assumes nothing.
 use mathlib.Core.Path.{_≡_}
+use mathlib.Core.List.{List}
+use Prim.Native.Nat.{ℕ}
 use native.Mathlib.Omega.{arith}
 use Rattle.headers.specs.Row.{Obeys}
+use Rattle.headers.specs.declared.row.Row.{Row}
 use Rattle.delivery.specs.Layout.{rowIn}
 use Rattle.delivery.proofs.Screening.{RowSound, all-passed, row-broken, row-read, row-refused, row-sound, row-stopped, row-passed}
 use borrow.Author.Needs.{needs}
@@ -24,9 +27,15 @@ returns c =
     let read = c .before .before in
     row-refused (a .bytes .now) (a .k) (a .t) (row-broken (a .bytes .now) (read .row .result) (read .row .ensures) _ (c .enum-told .given .1))
 
--- past the check the record obeys, and is that of the delivery
-own : (c : tie.After-known-told) → let r = c .before .r .given .0 .0 in (Obeys r) × (r ≡ rowIn (c .before .before .before .before .before .args .bytes .now))
-own c = row-read (c .before .before .before .before .before .args .bytes .now) (c .before .before .before .row .result) (c .before .before .before .row .ensures) _ (c .before .r .given .1)
+-- past the check there is a record, it obeys, and it is that of the delivery
+abbrev made : tie.After-known-told → Row
+made c = c .before .r .given .0 .0
+
+abbrev bytes : tie.After-known-told → List ℕ
+bytes c = c .before .before .before .before .before .args .bytes .now
+
+own : (c : tie.After-known-told) → (Obeys (made c)) × (made c ≡ rowIn (bytes c))
+own c = let read = c .before .before .before in row-read (bytes c) (read .row .result) (read .row .ensures) _ (c .before .r .given .1)
 
 screen-row-requires : tie.Need-screen-row-requires
 screen-row-requires c κs = own c .0
@@ -39,17 +48,17 @@ enum-told-3 c = search needs
 
 returns-2 : tie.Need-returns-2
 returns-2 c =
-    let a = c .before .before .before .before .before .before .before .before .args in
-    let o = own (c .before .before .before) in
-    let s = c .before .before in
-    row-stopped (a .bytes .now) (c .before .before .before .before .r .given .0 .0) (o .1) (a .k) (a .t) (s .screen-row .result) (s .screen-row .ensures) _ (c .enum-told3 .given .1)
+    let r = c .before .before .before in
+    let a = r .before .before .before .before .before .args in
+    let s = c .before .before .screen-row in
+    row-stopped (bytes r) (made r) (own r .1) (a .k) (a .t) (s .result) (s .ensures) _ (c .enum-told3 .given .1)
 
 -- past the screen of the row
-passed : (c : tie.After-enum-told2) → let a = c .before .before .before .before .before .before .before .before .args in RowSound (c .before .before .before .before .r .given .0 .0) (a .k) (a .t)
+passed : (c : tie.After-enum-told2) → let r = c .before .before .before in RowSound (made r) (r .before .before .before .before .before .args .k) (r .before .before .before .before .before .args .t)
 passed c =
-    let a = c .before .before .before .before .before .before .before .before .args in
-    let s = c .before .before in
-    row-sound (c .before .before .before .before .r .given .0 .0) (a .k) (a .t) (all-passed (s .screen-row .result) (s .screen-row .ensures) (c .enum-told2 .given .1))
+    let r = c .before .before .before in
+    let s = c .before .before .screen-row in
+    row-sound (made r) (r .before .before .before .before .before .args .k) (r .before .before .before .before .before .args .t) (all-passed (s .result) (s .ensures) (c .enum-told2 .given .1))
 
 cast-screen-packets : tie.Need-cast-screen-packets
 cast-screen-packets c = let l = passed c in omega (arith, l .k-high, l .rules .ranges .kp-16)
@@ -59,11 +68,10 @@ screen-packets-requires c κs = let l = passed c in (l .rules, l .k-low, l .k-hi
 
 returns-3 : tie.Need-returns-3
 returns-3 c =
-    let a = c .before .before .before .before .before .before .before .before .before .args in
-    let o = own (c .before .before .before .before) in
-    let s = c .before .before .before in
-    row-passed (a .bytes .now) (c .before .before .before .before .before .r .given .0 .0) (o .1) (a .k) (a .t) (s .screen-row .result) (s .screen-row .ensures) (c .before .enum-told2 .given .1)
-    (c .screen-packets .ensures)
+    let r = c .before .before .before .before in
+    let a = r .before .before .before .before .before .args in
+    let s = c .before .before .before .screen-row in
+    row-passed (bytes r) (made r) (own r .1) (a .k) (a .t) (s .result) (s .ensures) (c .before .enum-told2 .given .1) (c .screen-packets .ensures)
 
 pub screen-rest-spec : {M : Type 1} → statement M
 screen-rest-spec =
