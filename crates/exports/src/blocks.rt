@@ -41,7 +41,8 @@ pub extern "C" fn spoonripple_encode(
     intermediates: &[u8],
     out: &mut [u8],
 ) -> u32
-    ensures { λ r. ⌜ Reports done (λ a ys. Encodes (now (tables .entry)) (row k j s h w l p b p1) count t esi (now (intermediates .entry)) (now (out .entry)) ys a)
+    ensures { λ r. ⌜ Reports done
+        (λ a ys. Encodes (now (tables .entry)) (row k j s h w l p b p1) count t esi (now (intermediates .entry)) (now (out .entry)) ys a)
         r (now (out .exit)) ⌝ }
 {
     let r = handed_row(k, j, s, h, w, l, p, b, p1);

@@ -35,7 +35,8 @@ pub extern "C" fn spoonripple_enc_indices(
     b1: u32,
     list: &mut [u32],
 ) -> u32
-    ensures { λ r. ⌜ Reports numberOutcome (λ n ys. Walked (row k j s h w l p b p1) (tuple d a «tuple_b» d1 a1 b1) (now (list .entry)) ys n) r (now (list .exit)) ⌝ }
+    ensures { λ r. ⌜ Reports numberOutcome (λ n ys. Walked (row k j s h w l p b p1) (tuple d a «tuple_b» d1 a1 b1) (now (list .entry)) ys n)
+        r (now (list .exit)) ⌝ }
 {
     let r = handed_row(k, j, s, h, w, l, p, b, p1);
     let t = Tuple {
@@ -109,8 +110,8 @@ pub extern "C" fn spoonripple_constraint_matrix_no_hdpc(
     isis: &[u32],
     words: &mut [u64],
 ) -> u32
-    ensures { λ r. ⌜ Reports matrixOutcome (λ m ys. Builds (now (tables .entry)) (now (isis .entry)) (row k j s h w l p b p1) 0 (k + h) (now (words .entry)) ys m)
-        r (now (words .exit)) ⌝ }
+    ensures { λ r. ⌜ Reports matrixOutcome
+        (λ m ys. Builds (now (tables .entry)) (now (isis .entry)) (row k j s h w l p b p1) 0 (k + h) (now (words .entry)) ys m) r (now (words .exit)) ⌝ }
 {
     let r = handed_row(k, j, s, h, w, l, p, b, p1);
     told_matrix(constraint_matrix::generate_constraint_matrix_no_hdpc(r, tables, isis, words))

@@ -1,4 +1,5 @@
-// Rand, degrees, parameter rows, the shift and tuples (RFC 6330, sections 5.3.5, 5.5 and 5.6). A row is its record: K', J, S, H, W, L, P, B, P1; the check makes it.
+// Rand, degrees, parameter rows, the shift and tuples (RFC 6330, sections 5.3.5, 5.5 and 5.6). A row is its record, K', J, S, H, W, L, P, B, P1, which
+// the check makes.
 ghost use Rattle.headers.specs.Degree.{degAnswer};
 ghost use Rattle.headers.specs.Rand.{randAnswer};
 ghost use Rattle.headers.specs.Row.{rowChecked};
@@ -82,7 +83,8 @@ pub extern "C" fn spoonripple_isi(
     esi: u32,
     out: &mut [u64],
 ) -> u32
-    ensures { λ r. ⌜ Called (thenRoomed (now (out .entry)) (listed single (isiAnswer (row k j s h w l p b p1) count esi))) (now (out .entry)) (now (out .exit)) r ⌝ }
+    ensures { λ r. ⌜ Called (thenRoomed (now (out .entry)) (listed single (isiAnswer (row k j s h w l p b p1) count esi)))
+        (now (out .entry)) (now (out .exit)) r ⌝ }
 {
     let r = handed_row(k, j, s, h, w, l, p, b, p1);
     match ids::isi_of(r, count, Esi(esi)) {

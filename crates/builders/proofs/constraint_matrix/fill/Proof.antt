@@ -54,7 +54,8 @@ enc-rows-requires c κs =
     let s = c .before .before .before .before .before .before .before .before .before .before .before .before .before .before .before .before .before in
     let o : Obeys (s .args .r) = s .pre .0 in
     let d = o .derived in
-    let size = c .before .before .before .ldpc-rows .ensures .size ∙ c .before .before .before .before .before .before .before .before .before .before .clear .ensures .size in
+    let added = c .before .before .before in
+    let size = added .ldpc-rows .ensures .size ∙ added .before .before .before .before .before .before .before .clear .ensures .size in
     rw (d .l-fits, d .p-fits, d .p1-fits) (lies-on (s .pre .4) size, omega arith, walks o, ready o (s .pre .1), omega (arith, l-is o))
 
 same-length : tie.Need-same-length

@@ -49,7 +49,8 @@ cast-if3 c = search needs
 
 returns-3 : tie.Need-returns-3
 returns-3 c =
-    record { answer = simp (obeyed (fine (c .before .before .before .before)), inside-bounds (bounds (c .before .before)), lt-ltb _ _ (c .if3 .taken)); memory = refl }
+    let o = fine (c .before .before .before .before) in
+    record { answer = simp (obeyed o, inside-bounds (bounds (c .before .before)), lt-ltb _ _ (c .if3 .taken)); memory = refl }
 
 enc-indices-requires : tie.Need-enc-indices-requires
 enc-indices-requires c κs =
@@ -61,9 +62,10 @@ same-length c = search needs
 
 returns-4 : tie.Need-returns-4
 returns-4 c =
-    let o = fine (c .before .before .before .before .before .before .before .before) in
+    let t = c .before .before .before .before in
+    let o = fine (t .before .before .before .before) in
     record {
-      answer = simp (obeyed o, inside-bounds (bounds (c .before .before .before .before .before .before)), le-ltb _ _ (c .before .before .before .before .if3 .left));
+      answer = simp (obeyed o, inside-bounds (bounds (t .before .before)), le-ltb _ _ (t .if3 .left));
       memory = rw (o .derived .p-fits, o .derived .p1-fits) at (c .before .before .enc-indices .ensures);
     }
 

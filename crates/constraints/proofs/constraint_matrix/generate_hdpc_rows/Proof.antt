@@ -58,8 +58,9 @@ returns-4 c =
     let r = c .before .before .before .before .before .before .before .before .before .before .before .before .args .r in
     let e = o .derived .l-fits in
     let n : lOf r - r .h ≡ r .kp + r .s = omega arith in
+    let t = c .before .before .before .before in
     record {
-      answer = simp (obeyed o, eq-eqb _ _ (c .before .before .before .before .before .before .before .if2 .left), le-ltb _ _ (rw e at (c .before .before .before .before .if3 .left)));
+      answer = simp (obeyed o, eq-eqb _ _ (t .before .before .before .if2 .left), le-ltb _ _ (rw e at (t .if3 .left)));
       memory = rw (e, n) at (c .before .before .generate-hdpc-rows .ensures);
     }
 

@@ -49,20 +49,55 @@ mul-if7 c =
 returns-7 : tie.Need-returns-7
 returns-7 c =
     let a = c .before .before .before .before .before .before .before .before .before .before .args in
-    let e : a .have < lOf (a .r) * a .t = subst (λ (n : ℕ). a .have < n * a .t) (fine (c .before .before .before .before .before .before .before .before) .derived .l-fits) (c .if7 .taken) in
-    simp (obeyed (fine (c .before .before .before .before .before .before .before .before)), eq-eqb _ _ (c .before .before .before .before .before .before .before .if2 .left), le-leb _ _ (c .before .before .before .before .before .before .if3 .left), le-leb _ _ (c .before .before .before .before .if4 .left), lt-leb _ _ (c .before .before .before .if5 .left), ne-eqb _ _ (c .before .before .if6 .left), lt-ltb _ _ e)
+    let o = fine (c .before .before .before .before .before .before .before .before) in
+    let e : a .have < lOf (a .r) * a .t = subst (λ (n : ℕ). a .have < n * a .t) (o .derived .l-fits) (c .if7 .taken) in
+    let t = c .before .before in
+    let k = c .before .before .before .before .before .before in
+    simp (
+      obeyed o,
+      eq-eqb _ _ (k .before .if2 .left),
+      le-leb _ _ (k .if3 .left),
+      le-leb _ _ (t .before .before .if4 .left),
+      lt-leb _ _ (t .before .if5 .left),
+      ne-eqb _ _ (t .if6 .left),
+      lt-ltb _ _ e,
+    )
 
 returns-8 : tie.Need-returns-8
 returns-8 c =
     let a = c .before .before .before .before .before .before .before .before .before .before .before .args in
-    let e : lOf (a .r) * a .t ≤ a .have = subst (λ (n : ℕ). n * a .t ≤ a .have) (fine (c .before .before .before .before .before .before .before .before .before) .derived .l-fits) (c .before .if7 .left) in
-    simp (obeyed (fine (c .before .before .before .before .before .before .before .before .before)), eq-eqb _ _ (c .before .before .before .before .before .before .before .before .if2 .left), le-leb _ _ (c .before .before .before .before .before .before .before .if3 .left), le-leb _ _ (c .before .before .before .before .before .if4 .left), lt-leb _ _ (c .before .before .before .before .if5 .left), ne-eqb _ _ (c .before .before .before .if6 .left), le-ltb _ _ e, lt-ltb _ _ (c .if8 .taken))
+    let o = fine (c .before .before .before .before .before .before .before .before .before) in
+    let e : lOf (a .r) * a .t ≤ a .have = subst (λ (n : ℕ). n * a .t ≤ a .have) (o .derived .l-fits) (c .before .if7 .left) in
+    let t = c .before .before .before in
+    let k = c .before .before .before .before .before .before .before in
+    simp (
+      obeyed o,
+      eq-eqb _ _ (k .before .if2 .left),
+      le-leb _ _ (k .if3 .left),
+      le-leb _ _ (t .before .before .if4 .left),
+      lt-leb _ _ (t .before .if5 .left),
+      ne-eqb _ _ (t .if6 .left),
+      le-ltb _ _ e,
+      lt-ltb _ _ (c .if8 .taken),
+    )
 
 returns-9 : tie.Need-returns-9
 returns-9 c =
     let a = c .before .before .before .before .before .before .before .before .before .before .before .args in
-    let e : lOf (a .r) * a .t ≤ a .have = subst (λ (n : ℕ). n * a .t ≤ a .have) (fine (c .before .before .before .before .before .before .before .before .before) .derived .l-fits) (c .before .if7 .left) in
-    simp (obeyed (fine (c .before .before .before .before .before .before .before .before .before)), eq-eqb _ _ (c .before .before .before .before .before .before .before .before .if2 .left), le-leb _ _ (c .before .before .before .before .before .before .before .if3 .left), le-leb _ _ (c .before .before .before .before .before .if4 .left), lt-leb _ _ (c .before .before .before .before .if5 .left), ne-eqb _ _ (c .before .before .before .if6 .left), le-ltb _ _ e, le-ltb _ _ (c .if8 .left))
+    let o = fine (c .before .before .before .before .before .before .before .before .before) in
+    let e : lOf (a .r) * a .t ≤ a .have = subst (λ (n : ℕ). n * a .t ≤ a .have) (o .derived .l-fits) (c .before .if7 .left) in
+    let t = c .before .before .before in
+    let k = c .before .before .before .before .before .before .before in
+    simp (
+      obeyed o,
+      eq-eqb _ _ (k .before .if2 .left),
+      le-leb _ _ (k .if3 .left),
+      le-leb _ _ (t .before .before .if4 .left),
+      lt-leb _ _ (t .before .if5 .left),
+      ne-eqb _ _ (t .if6 .left),
+      le-ltb _ _ e,
+      le-ltb _ _ (c .if8 .left),
+    )
 
 pub check-spec : {M : Type 1} → statement M
 check-spec =

@@ -27,7 +27,8 @@ well c =
     (told (c .before .before .check .result) (c .before .before .check .ensures) (c .enum-told .given .1))
 
 -- the tuple is that of the shifted ESI
-made : (c : tie.After-intermediate-tuple) → let a = c .before .before .before .before .before .before .before .before .args in c .intermediate-tuple .result ≡ tupleOn (a .tables .now) (a .r) (shifted (a .esi) (a .k) (a .r .kp))
+made : (c : tie.After-intermediate-tuple) → let a = c .before .before .before .before .before .before .before .before .args in
+    c .intermediate-tuple .result ≡ tupleOn (a .tables .now) (a .r) (shifted (a .esi) (a .k) (a .r .kp))
 made c =
     let a = c .before .before .before .before .before .before .before .before .args in
     tuple-is (a .tables .now) (a .r) (c .intermediate-tuple .ensures) (well (c .before .before) .rules .derived .p1-fits) (c .before .isi-of .ensures)
@@ -68,9 +69,10 @@ returns-2 c =
     let a = c .before .before .before .before .before .before .before .before .before .before .args in
     let e = made (c .before .before) in
     let checked = c .before .before .before .before .before .before in
+    let passed = c .before .before .before .before .enum-told .given .1 in
     let l : 32 < steps (tupleOn (a .tables .now) (a .r) (shifted (a .esi) (a .k) (a .r .kp))) = subst (λ (z : Tuple). 32 < steps z) e (c .if1 .taken) in
     record {
-      answer = sym (went-on (checked .check .result) (checked .check .ensures) _ (c .before .before .before .before .enum-told .given .1) ∙ simp (lt-ltb _ _ l));
+      answer = sym (went-on (checked .check .result) (checked .check .ensures) _ passed ∙ simp (lt-ltb _ _ l));
       memory = refl;
     }
 
@@ -98,10 +100,11 @@ returns-3 c =
     let a = c .before .before .before .before .before .before .before .before .before .before .before .before .before .before .args in
     let d = h .rules .derived in
     let checked = c .before .before .before .before .before .before .before .before .before .before in
+    let passed = c .before .before .before .before .before .before .before .before .enum-told .given .1 in
     let x = shifted (a .esi) (a .k) (a .r .kp) in
     let l : steps (tupleOn (a .tables .now) (a .r) x) ≤ 32 = walk-fits (h .rules) (a .tables .now) (h .all) x in
     record {
-      answer = sym (went-on (checked .check .result) (checked .check .ensures) _ (c .before .before .before .before .before .before .before .before .enum-told .given .1) ∙ simp (le-ltb _ _ l));
+      answer = sym (went-on (checked .check .result) (checked .check .ensures) _ passed ∙ simp (le-ltb _ _ l));
       memory =
           encoded-walk (h .rules) (a .tables .now) x (a .t) (a .intermediates .now) (made m) (d .p-fits) (d .p1-fits) (c .before .before .enc .ensures);
     }

@@ -29,7 +29,8 @@ returns c =
     let u = rw (at .before .before .before .before .before .handed-row .ensures) at (at .unroomed .ensures) in
     let z = at .unroomed .last .1 .1 .1 .1 .1 .1 in
     told-unroomed (row (a .k) (a .j) (a .s) (a .h) (a .w) (a .l) (a .p) (a .b) (a .p1)) (now (a .tables)) (a .count) (a .t) (now (a .esis)) (now (a .symbols))
-    (now (a .rows)) (now (a .values)) (now (a .out)) (now (a .shortfall)) (z .0) (z .1 .0) (z .1 .1 .0) (at .before .before .before .before .if1 .taken) (u .0) (u .1)
+    (now (a .rows)) (now (a .values)) (now (a .out)) (now (a .shortfall))
+    (z .0) (z .1 .0) (z .1 .1 .0) (at .before .before .before .before .if1 .taken) (u .0) (u .1)
 
 solve-requires : tie.Need-solve-requires
 solve-requires c κs = search needs
@@ -85,7 +86,8 @@ returns-3 c =
     let u = rw (at .before .before .before .before .before .handed-row .ensures) at (at .solve .ensures) in
     let z = at .solve .last .1 .1 .1 .1 .1 .1 in
     told-refused (row (a .k) (a .j) (a .s) (a .h) (a .w) (a .l) (a .p) (a .b) (a .p1)) (now (a .tables)) (a .count) (a .t) (now (a .esis)) (now (a .symbols))
-    (now (a .rows)) (now (a .values)) (now (a .out)) (now (a .shortfall)) (z .0) (z .1 .0) (z .1 .1 .0) _ _ u (c .before .before .why .given .1) (c .number .ensures)
+    (now (a .rows)) (now (a .values)) (now (a .out)) (now (a .shortfall))
+    (z .0) (z .1 .0) (z .1 .1 .0) _ _ u (c .before .before .why .given .1) (c .number .ensures)
 
 pub spoonripple-solve-spec : {M : Type 1} → statement M
 spoonripple-solve-spec =

@@ -40,7 +40,8 @@ returns : tie.Need-returns
 returns c =
     let found = c .before .before .before .before .before .before in
     let given = rw (found .before .before .before .handed-row .ensures) at (found .before .before .isi-of .ensures) in
-    called-of single (sym (ap isiOutcome (found .x .given .1)) ∙ given) (rw (c .before .before .before .before .number .ensures) at (c .before .before .hand-one .ensures))
+    let told = rw (c .before .before .before .before .number .ensures) at (c .before .before .hand-one .ensures) in
+    called-of single (sym (ap isiOutcome (found .x .given .1)) ∙ given) told
 
 returns-2 : tie.Need-returns-2
 returns-2 c =

@@ -23,8 +23,10 @@ returns : tie.Need-returns
 unfolding ldpc
 returns c =
     let e = c .before .before .before .before .before .before .before .before .before .before .before .before .before .pre .2 in
+    let one = c .before .before .before .before .before .before .before .before .before .before .crossings .ensures in
+    let two = rw e at (c .before .before .before .before .before .before .identity .ensures) in
     added-then
-    (added-then (c .before .before .before .before .before .before .before .before .before .before .crossings .ensures) (rw e at (c .before .before .before .before .before .before .identity .ensures)) (λ r q. refl))
+    (added-then one two (λ r q. refl))
     (c .before .before .endings .ensures) (λ r q. refl)
 
 pub ldpc-rows-spec : {M : Type 1} → statement M

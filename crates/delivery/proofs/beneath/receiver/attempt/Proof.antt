@@ -44,7 +44,9 @@ slice-reshare-prefix-leave : tie.Need-slice-reshare-prefix-leave
 slice-reshare-prefix-leave c = in-set (c .before .before .before .before .before .before .before .before .before .before)
 
 slice-aggregate-leave : tie.Need-slice-aggregate-leave
-slice-aggregate-leave c = let v = c .before .before .before .before .before .before .before .before .before .before .before in sym (length-take-le (octets v) (set v) (in-set v))
+slice-aggregate-leave c =
+    let v = c .before .before .before .before .before .before .before .before .before .before .before in
+    sym (length-take-le (octets v) (set v) (in-set v))
 
 leave-requires : tie.Need-leave-requires
 leave-requires c κs =

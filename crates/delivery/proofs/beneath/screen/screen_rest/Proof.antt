@@ -54,11 +54,14 @@ returns-2 c =
     row-stopped (bytes r) (made r) (own r .1) (a .k) (a .t) (s .result) (s .ensures) _ (c .enum-told3 .given .1)
 
 -- past the screen of the row
-passed : (c : tie.After-enum-told2) → let r = c .before .before .before in RowSound (made r) (r .before .before .before .before .before .args .k) (r .before .before .before .before .before .args .t)
+passed : (c : tie.After-enum-told2) → let r = c .before .before .before in
+    let a = r .before .before .before .before .before .args in
+    RowSound (made r) (a .k) (a .t)
 passed c =
     let r = c .before .before .before in
+    let a = r .before .before .before .before .before .args in
     let s = c .before .before .screen-row in
-    row-sound (made r) (r .before .before .before .before .before .args .k) (r .before .before .before .before .before .args .t) (all-passed (s .result) (s .ensures) (c .enum-told2 .given .1))
+    row-sound (made r) (a .k) (a .t) (all-passed (s .result) (s .ensures) (c .enum-told2 .given .1))
 
 cast-screen-packets : tie.Need-cast-screen-packets
 cast-screen-packets c = let l = passed c in omega (arith, l .k-high, l .rules .ranges .kp-16)

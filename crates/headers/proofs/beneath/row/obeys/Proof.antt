@@ -40,7 +40,9 @@ returns-4 : tie.Need-returns-4
 returns-4 c = let d = fine (c .before .before .before .before .before .before) .derived in λ o. omega (arith, c .if3 .taken, d .b-fits, o .derived .b-fits)
 
 returns-5 : tie.Need-returns-5
-returns-5 c = let d = fine (c .before .before .before .before .before .before .before .before) .derived in λ o. omega (arith, c .if4 .taken, d .p1-fits, o .derived .p1-fits)
+returns-5 c =
+    let d = fine (c .before .before .before .before .before .before .before .before) .derived in
+    λ o. omega (arith, c .if4 .taken, d .p1-fits, o .derived .p1-fits)
 
 returns-6 : tie.Need-returns-6
 returns-6 c =
