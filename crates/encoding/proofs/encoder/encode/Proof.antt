@@ -8,7 +8,7 @@ use lib.ListN.{length}
 use Rattle.field.proofs.Refusals.{went-on, stopped, told, left}
 use Rattle.headers.specs.Row.{p1Of}
 use Rattle.headers.specs.Shift.{shifted}
-use Rattle.headers.specs.Tuples.{Bounds, Ready}
+use Rattle.headers.specs.Tuples.{Bounds}
 use Rattle.headers.specs.declared.tuple.Tuple.{Tuple}
 use Rattle.headers.proofs.Accepted.{l-is, ready}
 use Rattle.headers.proofs.Tuples.{bounded}

@@ -6,7 +6,7 @@ use borrow.Author.Tests.{eq-eqb, ne-eqb}
 use borrow.Author.Needs.{needs}
 use Rattle.field.specs.Answer.{given}
 use Rattle.headers.specs.Row.{Obeys}
-use Rattle.headers.specs.Tuples.{Ready, tupleOf}
+use Rattle.headers.specs.Tuples.{tupleOf}
 use Rattle.headers.proofs.Tests.{granted, denied}
 use Rattle.headers.proofs.Accepted.{obeyed, broken, own-ready}
 use Rattle.headers.proofs.tuple.intermediate_tuple.Statement.{statement}
