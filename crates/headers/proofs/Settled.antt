@@ -1,7 +1,9 @@
 -- An answer is settled by what it stands for: of two that stand for the same, the contracts allow only one.
 -- Assumes nothing.
 use mathlib.Core.Path.{_≡_, refl, ap}
+use Prim.Native.Nat.{ℕ}
 use Rattle.field.proofs.Answers.{named-number, answerOf, answer-only}
+use Rattle.headers.proofs.Accepted.{of-five}
 use Rattle.headers.specs.Number as number
 use Rattle.headers.specs.Row as row
 use Rattle.headers.specs.Shift as shift
@@ -10,6 +12,8 @@ use Rattle.headers.specs.declared.number.Number.{Number}
 use Rattle.headers.specs.declared.number.Number.the-variants as N
 use Rattle.headers.specs.declared.row.Checked.{Checked}
 use Rattle.headers.specs.declared.row.Checked.the-variants as C
+use Rattle.headers.specs.declared.beneath.row.Derivation.{Derivation}
+use Rattle.headers.specs.declared.beneath.row.Derivation.the-variants as D
 use Rattle.headers.specs.declared.ids.Shifted.{Shifted}
 use Rattle.headers.specs.declared.ids.Shifted.the-variants as S
 use Rattle.headers.specs.declared.tuple.Generated.{Generated}
@@ -30,6 +34,16 @@ checked-back (C.Refused w) = ap C.Refused (named-number w)
 
 pub checked-only : (p q : Checked) → row.rowOutcome p ≡ row.rowOutcome q → p ≡ q
 checked-only = answer-only row.rowOutcome C.Value C.Refused checked-back
+
+-- beneath it
+pub derives-once : (kp j s h w : ℕ) (a b : Derivation) → row.Derives kp j s h w a → row.Derives kp j s h w b → a ≡ b
+derives-once kp j s h w (D.Numbers l p b p1) (D.Numbers l₁ p₁ b₁ p₂) u v =
+    let d = u .derived in
+    let e = v .derived in
+    rw (d .l-fits, d .p-fits, d .b-fits, d .p1-fits, e .l-fits, e .p-fits, e .b-fits, e .p1-fits)
+derives-once kp j s h w (D.Numbers l p b p1) D.Broken u v = absurd (v (of-five u))
+derives-once kp j s h w D.Broken (D.Numbers l p b p1) u v = absurd (u (of-five v))
+derives-once kp j s h w D.Broken D.Broken u v = refl
 
 -- isi_of
 shifted-back : (a : Shifted) → answerOf (λ n. S.Value (record { 0 = n })) S.Refused (shift.isiOutcome a) ≡ a
