@@ -103,6 +103,7 @@ fn hear(bytes: &[u8], out: &mut [u8]) -> Received
     ensures { λ o. ⌜ Heard (now (bytes .entry)) (now (out .entry)) (now (out .exit)) o ⌝ }
 {
     let o = layout::info(bytes);
+    // The screen has seen that the check makes a record.
     let Checked::Value(r) = layout::row(bytes) else {
         return Received::Stopped(Stop::Refused(Refusal::BadRow));
     };

@@ -1,14 +1,17 @@
 -- `encoding::encoder::check` meets its contract.
 -- Assumes nothing.
-use mathlib.Core.Path.{subst}
+use mathlib.Core.Path.{_≡_, sym, _∙_, subst}
 use Prim.Native.Nat.{ℕ, _*_, _≤_, _<_}
 use native.Mathlib.Nat.{mul-le-mul}
 use native.Mathlib.Omega.{arith}
 use borrow.Author.Tests.{le-leb, lt-leb, lt-ltb, le-ltb, eq-eqb, ne-eqb}
+use lib.Dec.{ltb}
+use Rattle.field.specs.Answer.{given, unless}
 use Rattle.headers.specs.Row.{Obeys, lOf}
 use Rattle.headers.proofs.Tests.{granted, denied}
 use Rattle.headers.proofs.Accepted.{obeyed, broken}
 use borrow.Author.Needs.{needs}
+use Rattle.encoding.specs.Encoded.{allowed}
 use Rattle.encoding.proofs.encoder.check.Statement.{statement}
 use Rattle.encoding.proofs.encoder.check.Tie as tie
 
@@ -46,58 +49,40 @@ mul-if7 c =
     let o = fine (c .before .before .before .before .before .before .before) in
     omega (arith, mul-le-mul {n₁ = a .r .l} {m₁ = a .t} {n₂ = 65535} {m₂ = 65535} (omega (arith, o .derived .l-fits, o .l-high)) (omega arith))
 
+-- past six tests what is left of the refusals is a question of room
+rest : (c : tie.Else6) → let a = c .before .before .before .before .before .before .before .before .args in
+    allowed (a .r) (a .tables) (a .k) (a .t) (a .esi) (a .have) (a .room)
+    ≡ unless (ltb (a .have) (lOf (a .r) * a .t)) 8 (unless (ltb (a .room) (a .t)) 8 (given tt))
+rest c =
+    let k = c .before .before .before .before in
+    simp (
+      obeyed (fine (c .before .before .before .before .before .before)),
+      eq-eqb _ _ (k .before .if2 .left),
+      le-leb _ _ (k .if3 .left),
+      le-leb _ _ (c .before .before .if4 .left),
+      lt-leb _ _ (c .before .if5 .left),
+      ne-eqb _ _ (c .if6 .left),
+    )
+
 returns-7 : tie.Need-returns-7
 returns-7 c =
-    let a = c .before .before .before .before .before .before .before .before .before .before .args in
-    let o = fine (c .before .before .before .before .before .before .before .before) in
-    let e : a .have < lOf (a .r) * a .t = subst (λ (n : ℕ). a .have < n * a .t) (o .derived .l-fits) (c .if7 .taken) in
     let t = c .before .before in
-    let k = c .before .before .before .before .before .before in
-    simp (
-      obeyed o,
-      eq-eqb _ _ (k .before .if2 .left),
-      le-leb _ _ (k .if3 .left),
-      le-leb _ _ (t .before .before .if4 .left),
-      lt-leb _ _ (t .before .if5 .left),
-      ne-eqb _ _ (t .if6 .left),
-      lt-ltb _ _ e,
-    )
+    let a = t .before .before .before .before .before .before .before .before .args in
+    let f = fine (t .before .before .before .before .before .before) .derived .l-fits in
+    let e : a .have < lOf (a .r) * a .t = subst (λ (n : ℕ). a .have < n * a .t) f (c .if7 .taken) in
+    sym (rest t ∙ simp (lt-ltb _ _ e))
+
+-- past the seventh the intermediate symbols are there
+symbols : (c : tie.Else7) → let a = c .before .before .before .before .before .before .before .before .before .before .args in lOf (a .r) * a .t ≤ a .have
+symbols c =
+    let a = c .before .before .before .before .before .before .before .before .before .before .args in
+    subst (λ (n : ℕ). n * a .t ≤ a .have) (fine (c .before .before .before .before .before .before .before .before) .derived .l-fits) (c .if7 .left)
 
 returns-8 : tie.Need-returns-8
-returns-8 c =
-    let a = c .before .before .before .before .before .before .before .before .before .before .before .args in
-    let o = fine (c .before .before .before .before .before .before .before .before .before) in
-    let e : lOf (a .r) * a .t ≤ a .have = subst (λ (n : ℕ). n * a .t ≤ a .have) (o .derived .l-fits) (c .before .if7 .left) in
-    let t = c .before .before .before in
-    let k = c .before .before .before .before .before .before .before in
-    simp (
-      obeyed o,
-      eq-eqb _ _ (k .before .if2 .left),
-      le-leb _ _ (k .if3 .left),
-      le-leb _ _ (t .before .before .if4 .left),
-      lt-leb _ _ (t .before .if5 .left),
-      ne-eqb _ _ (t .if6 .left),
-      le-ltb _ _ e,
-      lt-ltb _ _ (c .if8 .taken),
-    )
+returns-8 c = sym (rest (c .before .before .before) ∙ simp (le-ltb _ _ (symbols (c .before)), lt-ltb _ _ (c .if8 .taken)))
 
 returns-9 : tie.Need-returns-9
-returns-9 c =
-    let a = c .before .before .before .before .before .before .before .before .before .before .before .args in
-    let o = fine (c .before .before .before .before .before .before .before .before .before) in
-    let e : lOf (a .r) * a .t ≤ a .have = subst (λ (n : ℕ). n * a .t ≤ a .have) (o .derived .l-fits) (c .before .if7 .left) in
-    let t = c .before .before .before in
-    let k = c .before .before .before .before .before .before .before in
-    simp (
-      obeyed o,
-      eq-eqb _ _ (k .before .if2 .left),
-      le-leb _ _ (k .if3 .left),
-      le-leb _ _ (t .before .before .if4 .left),
-      lt-leb _ _ (t .before .if5 .left),
-      ne-eqb _ _ (t .if6 .left),
-      le-ltb _ _ e,
-      le-ltb _ _ (c .if8 .left),
-    )
+returns-9 c = sym (rest (c .before .before .before) ∙ simp (le-ltb _ _ (symbols (c .before)), le-ltb _ _ (c .if8 .left)))
 
 pub check-spec : {M : Type 1} → statement M
 check-spec =
