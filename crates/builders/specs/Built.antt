@@ -6,9 +6,9 @@ use mathlib.Core.List.{List}
 use Prim.Native.Nat.{ℕ, _+_, _-_, _/_, _^_, _<_, _≤_}
 use lib.Dec.{eqb, ltb}
 use lib.ListN.{length, getD}
-use Rattle.field.specs.Answer.{Outcome, given, unless, Left}
+use Rattle.field.specs.Answer.{Outcome, given, unless, Left, before}
 use Rattle.field.specs.Choice.{pick}
-use Rattle.headers.specs.Row.{obeys, lOf}
+use Rattle.headers.specs.Row.{verified, lOf}
 use Rattle.headers.specs.declared.row.Row.{Row}
 use Rattle.stores.specs.Matrix.{entry, matrixOutcome, rowWords, shape, wordsOf}
 use Rattle.stores.specs.declared.matrix.DenseBinaryMatrix.{DenseBinaryMatrix}
@@ -36,7 +36,7 @@ pub record Built (v isis : List ℕ) (r : Row) (zeros : ℕ) (xs ys : List ℕ) 
 -- a row that breaks its rules, tables that are not 1,024 numbers, too few ids or too many, too short a store
 abbrev pub buildable : Row → ℕ → ℕ → ℕ → ℕ → ℕ → Outcome DenseBinaryMatrix
 buildable r tables ids zeros least room =
-    unless (not (obeys r)) 4 (unless (not (eqb tables 1024)) 5 (unless (ltb ids least) 9 (unless (ltb 65535 ids) 9
+    before (verified r) (unless (not (eqb tables 1024)) 5 (unless (ltb ids least) 9 (unless (ltb 65535 ids) 9
     (unless (ltb room (wordsOf (shaped r zeros ids))) 8 (given (shaped r zeros ids))))))
 
 pub record Builds (v isis : List ℕ) (r : Row) (zeros least : ℕ) (xs ys : List ℕ) (a : Made) : Type 0 where

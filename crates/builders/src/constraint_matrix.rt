@@ -8,6 +8,7 @@ ghost use Rattle.headers.specs.Row.{Obeys};
 ghost use Rattle.builders.specs.Adding.{Lies};
 ghost use Rattle.builders.specs.Built.{Builds, Built, shaped};
 use crate::beneath::adding;
+use field::refusal::Answer;
 use field::refusal::Refusal;
 use headers::beneath::row;
 use headers::row::Row;
@@ -56,8 +57,9 @@ fn build(r: Row, tables: &[u32], isis: &[u32], ws: &mut [u64], zeros: u32, least
 pub fn generate_constraint_matrix(r: Row, tables: &[u32], isis: &[u32], ws: &mut [u64]) -> Made
     ensures { λ a. ⌜ Builds (now (tables .entry)) (now (isis .entry)) r (r .h) (r .kp) (now (ws .entry)) (now (ws .exit)) a ⌝ }
 {
-    if !row::obeys(r) {
-        return Made::Refused(Refusal::BadRow);
+    let fine = row::verify(r);
+    if let Answer::Refused(why) = fine {
+        return Made::Refused(why);
     }
     build(r, tables, isis, ws, r.h, r.kp)
 }
@@ -71,8 +73,9 @@ pub fn generate_constraint_matrix_no_hdpc(
 ) -> Made
     ensures { λ a. ⌜ Builds (now (tables .entry)) (now (isis .entry)) r 0 (r .kp + r .h) (now (ws .entry)) (now (ws .exit)) a ⌝ }
 {
-    if !row::obeys(r) {
-        return Made::Refused(Refusal::BadRow);
+    let fine = row::verify(r);
+    if let Answer::Refused(why) = fine {
+        return Made::Refused(why);
     }
     build(r, tables, isis, ws, 0, r.kp + r.h)
 }

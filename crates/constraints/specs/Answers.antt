@@ -6,12 +6,12 @@ use mathlib.Core.List.{List}
 use Prim.Native.Nat.{ℕ, _+_, _-_, _*_}
 use lib.Dec.{eqb, leb, ltb}
 use lib.ListN.{length}
-use Rattle.field.specs.Answer.{Outcome, Left, done, given, unless}
+use Rattle.field.specs.Answer.{Outcome, Left, done, given, unless, before}
 use Rattle.field.specs.Choice.{both}
 use Rattle.field.specs.Runs.{Written}
 use Rattle.headers.specs.Bytes.{Laid}
 use Rattle.headers.specs.Number.{numberOutcome}
-use Rattle.headers.specs.Row.{obeys, between, lOf, pOf, p1Of}
+use Rattle.headers.specs.Row.{verified, between, lOf, pOf, p1Of}
 use Rattle.field.specs.declared.refusal.Answer as Plain
 use Rattle.headers.specs.declared.number.Number.{Number}
 use Rattle.headers.specs.declared.row.Row.{Row}
@@ -37,7 +37,7 @@ placesOf r = places (r .w) (pOf r) (p1Of r)
 -- how many places enc_indices writes: a row that breaks its rules, a tuple outside its bounds, too short a list
 abbrev pub indices : Row → Tuple → ℕ → Outcome ℕ
 indices r t room =
-    unless (not (obeys r)) 4 (unless (not (bounded (r .w) (p1Of r) t)) 2 (unless (ltb room (t .d + t .d1)) 8 (given (t .d + t .d1))))
+    before (verified r) (unless (not (bounded (r .w) (p1Of r) t)) 2 (unless (ltb room (t .d + t .d1)) 8 (given (t .d + t .d1))))
 
 -- the places at the front of the list, or the list as it was
 pub record Walked (r : Row) (t : Tuple) (xs ys : List ℕ) (a : Number) : Type 0 where
@@ -47,7 +47,7 @@ pub record Walked (r : Row) (t : Tuple) (xs ys : List ℕ) (a : Number) : Type 0
 -- may the HDPC rows be written? A row that breaks its rules, tables that are not 1,024 numbers, too short a store
 abbrev pub hdpcRoom : Row → ℕ → ℕ → Outcome (Unit {0})
 hdpcRoom r tables room =
-    unless (not (obeys r)) 4 (unless (not (eqb tables 1024)) 5 (unless (ltb room (r .h * lOf r)) 8 (given tt)))
+    before (verified r) (unless (not (eqb tables 1024)) 5 (unless (ltb room (r .h * lOf r)) 8 (given tt)))
 
 -- H rows of L octets at the front of the store, or the store as it was
 pub record HdpcRows (v : List ℕ) (r : Row) (xs ys : List ℕ) (a : Plain.Answer) : Type 0 where

@@ -59,8 +59,9 @@ fn bounded(w: u32, p1: u32, t: Tuple) -> bool
 pub fn enc_indices(r: Row, t: Tuple, list: &mut [u32]) -> Number
     ensures { λ a. ⌜ Walked r t (now (list .entry)) (now (list .exit)) a ⌝ }
 {
-    if !row::obeys(r) {
-        return Number::Refused(Refusal::BadRow);
+    let fine = row::verify(r);
+    if let refusal::Answer::Refused(why) = fine {
+        return Number::Refused(why);
     }
     if !bounded(r.w, r.p1, t) {
         return Number::Refused(Refusal::OutOfRange);
@@ -77,9 +78,10 @@ pub fn enc_indices(r: Row, t: Tuple, list: &mut [u32]) -> Number
 pub fn generate_hdpc_rows(r: Row, tables: &[u32], out: &mut [u8]) -> refusal::Answer
     ensures { λ a. ⌜ HdpcRows (now (tables .entry)) r (now (out .entry)) (now (out .exit)) a ⌝ }
 {
-    if !row::obeys(r) {
-        return refusal::Answer::Refused(Refusal::BadRow);
-    }
+    let fine = row::verify(r);
+    let refusal::Answer::Done = fine else {
+        return fine;
+    };
     if tables.len() != 1024 {
         return refusal::Answer::Refused(Refusal::BadTables);
     }

@@ -11,6 +11,8 @@ use Rattle.field.specs.Answer.{given}
 use Rattle.field.specs.Runs.{Written}
 use lib.Dec.{eqb}
 use Rattle.field.specs.Choice.{pick}
+use Rattle.field.specs.declared.refusal.Part.{Part}
+use Rattle.field.specs.declared.refusal.Part.the-variants as Parts
 use Rattle.field.specs.declared.refusal.Refusal.the-variants as Why
 use Rattle.field.proofs.Answers.{given-not-refused, refused-only, named, read-back}
 use Rattle.field.proofs.Writing.{written-once}
@@ -40,15 +42,27 @@ use Rattle.delivery.proofs.Screening.{sound}
 
 -- ---- one verdict, or one reason
 
--- the reason of a number
+-- the reason of a code
 abbrev stopped : ℕ → Stop
 stopped n = pick (eqb n 101) Stops.TooLarge (pick (eqb n 102) Stops.SeveralBlocks (pick (eqb n 103) Stops.OtherBlock (Stops.Refused (named n))))
+
+row-back : (p : Part) → stopped (stopOf (Stops.Refused (Why.BadRow p))) ≡ Stops.Refused (Why.BadRow p)
+row-back Parts.Wide = refl
+row-back Parts.Kp = refl
+row-back Parts.S = refl
+row-back Parts.H = refl
+row-back Parts.W = refl
+row-back Parts.B = refl
+row-back Parts.P = refl
+row-back Parts.Ldpc = refl
+row-back Parts.L = refl
+row-back Parts.Derived = refl
 
 stop-back : (a : Stop) → stopped (stopOf a) ≡ a
 stop-back (Stops.Refused Why.DivisorZero) = refl
 stop-back (Stops.Refused Why.OutOfRange) = refl
 stop-back (Stops.Refused Why.BadTransmission) = refl
-stop-back (Stops.Refused Why.BadRow) = refl
+stop-back (Stops.Refused (Why.BadRow p)) = row-back p
 stop-back (Stops.Refused Why.BadTables) = refl
 stop-back (Stops.Refused Why.Outside) = refl
 stop-back (Stops.Refused Why.SamePlace) = refl

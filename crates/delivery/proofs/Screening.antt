@@ -10,17 +10,18 @@ use native.Mathlib.Omega.{arith}
 use borrow.Author.Tests.{lt-ltb, le-ltb, ltb-false, eqb-true, eqb-false, not-false}
 use lib.Dec.{eqb, ltb}
 use lib.ListN.{length}
-use Rattle.field.specs.Answer.{Outcome, given, refused, before, numberOf}
+use Rattle.field.specs.Answer.{Outcome, given, refused, before, codeOf}
 use Rattle.field.specs.declared.refusal.Refusal.{Refusal}
 use Rattle.field.proofs.Refusals.{passed, passed-before}
 use Rattle.headers.specs.Headers.{infoChecked, idAt}
 use Rattle.headers.specs.Quotient.{ceil}
-use Rattle.headers.specs.Row.{Obeys, obeys, checked, rowOutcome, lOf}
+use Rattle.headers.specs.Row.{Obeys, verified, checked, rowOutcome, lOf}
 use Rattle.headers.specs.declared.row.Row.{Row}
 use Rattle.headers.specs.declared.row.Checked.{Checked}
 use Rattle.headers.specs.declared.row.Checked.the-variants as Checkeds
 use Rattle.headers.specs.declared.transmission.ObjectTransmissionInformation.{ObjectTransmissionInformation}
-use Rattle.headers.proofs.Accepted.{obeys-tells, broken, accepted, rejected}
+use Rattle.headers.proofs.Rules.{passed-row}
+use Rattle.headers.proofs.Accepted.{accepted, rejected}
 use Rattle.headers.proofs.Tests.{Tells, tells-eq, tells-both, tells-as, is-true, is-false}
 use Rattle.solver.specs.System.{fixed}
 use Rattle.delivery.specs.Layout.{OneBlock, infoOf, rowIn, tOf, kOf, countOf, packet, packetAt}
@@ -75,13 +76,13 @@ pub record RowSound (r : Row) (k t : ℕ) : Type 0 where
 
 pub row-sound : (r : Row) (k t : ℕ) → rowScreen r k t ≡ given tt → RowSound r k t
 row-sound r k t e =
-    let p1 = passed (not (obeys r)) 4 _ tt e in
+    let p1 = passed-row _ tt e in
     let p2 = passed (ltb k 1) 9 _ tt (p1 .1) in
     let p3 = passed (ltb (r .kp) k) 9 _ tt (p2 .1) in
     let p4 = passed (ltb 1024 t) 101 _ tt (p3 .1) in
     let p5 = passed (ltb 300 (lOf r)) 101 _ tt (p4 .1) in
     record {
-      rules = obeys-tells r .passes (not-false (obeys r) (p1 .0));
+      rules = p1 .0;
       k-low = ltb-false k 1 (p2 .0);
       k-high = ltb-false (r .kp) k (p3 .0);
       t-high = ltb-false 1024 t (p4 .0);
@@ -129,8 +130,8 @@ module _ (d : List ℕ) (x : Checked) (e : rowOutcome x ≡ checked (rowIn d)) w
       let a = accepted (rowIn d) r (sym (ap rowOutcome q) ∙ e) in
       (subst Obeys (sym (a .1)) (a .0), a .1)
 
-  pub row-broken : (why : Refusal) → x ≡ Checkeds.Refused why → Obeys (rowIn d) → ⊥
-  row-broken why q = rejected (rowIn d) (numberOf why) (sym (ap rowOutcome q) ∙ e) .1
+  pub row-broken : (why : Refusal) → x ≡ Checkeds.Refused why → verified (rowIn d) ≡ refused (codeOf why)
+  row-broken why q = rejected (rowIn d) (codeOf why) (sym (ap rowOutcome q) ∙ e)
 
 -- ---- the ways out of the whole screen
 
@@ -154,8 +155,8 @@ module _ (d : List ℕ) where
         ∙ ap (λ (p : ObjectTransmissionInformation). restScreen d (ceil (p .«transfer_length») (p .«symbol_size»)) (p .«symbol_size»)) e
         ∙ sym (went-past x (q ∙ ap infoScreen e) (restScreen d (kOf d) (tOf d)) s))
 
-  pub row-refused : (k t : ℕ) → (Obeys (rowIn d) → ⊥) → refused 4 ≡ restScreen d k t
-  row-refused k t n = simp (broken n)
+  pub row-refused : (k t n : ℕ) → verified (rowIn d) ≡ refused n → refused n ≡ restScreen d k t
+  row-refused k t n e = simp e
 
   -- past the row
   module _ (r : Row) (e : r ≡ rowIn d) (k t : ℕ) (x : Screened) (q : screened x ≡ rowScreen r k t) where

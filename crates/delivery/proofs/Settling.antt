@@ -8,12 +8,12 @@ use native.Mathlib.Omega.{arith}
 use borrow.Author.Tests.{le-ltb, eq-eqb, ne-eqb, lt-leb}
 use lib.ListN.{length, getD, take}
 use lib.Seq.{take-all, length-take-le}
-use Rattle.field.specs.Answer.{given, numberOf}
+use Rattle.field.specs.Answer.{given, codeOf}
 use Rattle.field.proofs.Answers.{given-not-refused}
 use Rattle.field.specs.Runs.{Written}
 use Rattle.headers.specs.Row.{lOf}
 use Rattle.headers.specs.declared.row.Row.{Row}
-use Rattle.headers.proofs.Accepted.{obeyed}
+use Rattle.headers.proofs.Rules.{obeyed}
 use Rattle.linear.specs.Bytes.{Bytes, tabulate}
 use Rattle.linear.proofs.Bytes.{length-tabulate, getD-tabulate}
 use Rattle.elimination.specs.declared.verdict.Verdict.{Verdict}
@@ -71,7 +71,7 @@ module _ {r : Row} {v : List ℕ} {k t : ℕ} {es xs : List ℕ} (h : Holdable r
       → Solves r v k t es xs a d o a₁ d₁ o₁ x → x ≡ Solutions.Refused why → ⊥
   never-refused a d o a₁ d₁ o₁ x why p u e =
       let w = subst (Solves r v k t es xs a d o a₁ d₁ o₁) e u in
-      given-not-refused tt (numberOf why) (sym (admitted-is a d o p) ∙ w .0)
+      given-not-refused tt (codeOf why) (sym (admitted-is a d o p) ∙ w .0)
 
 -- the solver's answer, and what was left
 pub decoded : (r : Row) (v : List ℕ) (k t f : ℕ) (es zs a d o a₁ d₁ o₁ xs ys : List ℕ) (x : Solution) (w : Verdict) (l : ℕ) → l ≡ lOf r * t

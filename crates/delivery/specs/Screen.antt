@@ -5,10 +5,10 @@ use mathlib.Core.List.{List}
 use Prim.Native.Nat.{ℕ, zero, suc, _+_, _-_, _%_}
 use lib.Dec.{eqb, ltb}
 use lib.ListN.{length}
-use Rattle.field.specs.Answer.{Outcome, given, refused, unless, before, numberOf}
+use Rattle.field.specs.Answer.{Outcome, given, refused, unless, before, codeOf}
 use Rattle.field.specs.Choice.{both}
 use Rattle.headers.specs.Headers.{infoChecked, idAt}
-use Rattle.headers.specs.Row.{obeys, lOf}
+use Rattle.headers.specs.Row.{verified, lOf}
 use Rattle.headers.specs.declared.row.Row.{Row}
 use Rattle.headers.specs.declared.transmission.ObjectTransmissionInformation.{ObjectTransmissionInformation}
 use Rattle.solver.specs.System.{fixed}
@@ -18,9 +18,9 @@ use Rattle.delivery.specs.declared.beneath.screen.Stop.the-variants as S
 use Rattle.delivery.specs.declared.beneath.screen.Screened.{Screened}
 use Rattle.delivery.specs.declared.beneath.screen.Screened.the-variants as Screeneds
 
--- document 01's numbers, and three above them for what this program alone does not take
+-- the codes of refusals, and three numbers that are none of them for what this program alone does not take
 abbrev pub stopOf : Stop → ℕ
-stopOf (Stops.Refused why) = numberOf why
+stopOf (Stops.Refused why) = codeOf why
 stopOf Stops.TooLarge = 101
 stopOf Stops.SeveralBlocks = 102
 stopOf Stops.OtherBlock = 103
@@ -41,7 +41,7 @@ infoScreen o = before (infoChecked o) (shapeScreen o)
 -- the rules of a row, K from 1 to K', and what the stores of this program hold
 abbrev pub rowScreen : Row → ℕ → ℕ → Outcome (Unit {0})
 rowScreen r k t =
-    unless (not (obeys r)) 4 (unless (ltb k 1) 9 (unless (ltb (r .kp) k) 9 (unless (ltb 1024 t) 101 (unless (ltb 300 (lOf r)) 101 (given tt)))))
+    before (verified r) (unless (ltb k 1) 9 (unless (ltb (r .kp) k) 9 (unless (ltb 1024 t) 101 (unless (ltb 300 (lOf r)) 101 (given tt)))))
 
 -- all of the tables, not too many equations, and whole packets: of `len` bytes, with `fixed` equations beside those of the packets
 abbrev pub lengthScreen : ℕ → ℕ → ℕ → Outcome (Unit {0})

@@ -13,11 +13,12 @@ use Rattle.field.specs.Answer.{Outcome, before, done, given, refused, unless}
 use Rattle.field.specs.Runs.{Written}
 use Rattle.field.proofs.Refusals.{passed}
 use Rattle.field.specs.declared.refusal.Answer as Plain
-use Rattle.headers.specs.Row.{Obeys, obeys, between, lOf, pOf, p1Of}
+use Rattle.headers.specs.Row.{Obeys, between, lOf, pOf, p1Of}
 use Rattle.headers.specs.Tuples.{Bounds, tupleOf}
 use Rattle.headers.specs.declared.row.Row.{Row}
 use Rattle.headers.specs.declared.tuple.Tuple.{Tuple}
-use Rattle.headers.proofs.Accepted.{obeys-tells, obeyed, l-is, ready}
+use Rattle.headers.proofs.Rules.{obeyed, passed-row}
+use Rattle.headers.proofs.Accepted.{l-is, ready}
 use Rattle.headers.proofs.Tests.{tells-both, tells-le}
 use Rattle.headers.proofs.Tuples.{bounded, three-below-four}
 use Rattle.constraints.specs.Encoding.{enc}
@@ -42,7 +43,7 @@ allowed-well r tables k t esi have room e =
     let o6 : Outcome (Unit {0}) = unless (eqb t 0) 10 o7 in
     let o5 : Outcome (Unit {0}) = unless (leb 16777216 esi) 9 o6 in
     let o4 : Outcome (Unit {0}) = unless (not (between 1 k (r .kp))) 9 o5 in
-    let p1 = passed (not (obeys r)) 4 (unless (not (eqb tables 1024)) 5 o4) tt e in
+    let p1 = passed-row (unless (not (eqb tables 1024)) 5 o4) tt e in
     let p2 = passed (not (eqb tables 1024)) 5 o4 tt (p1 .1) in
     let p4 = passed (not (between 1 k (r .kp))) 9 o5 tt (p2 .1) in
     let p5 = passed (leb 16777216 esi) 9 o6 tt (p4 .1) in
@@ -51,7 +52,7 @@ allowed-well r tables k t esi have room e =
     let p8 = passed (ltb room t) 8 (given tt) tt (p7 .1) in
     let b = tells-both (tells-le 1 k) (tells-le k (r .kp)) .passes (not-false (between 1 k (r .kp)) (p4 .0)) in
     record {
-      rules = obeys-tells r .passes (not-false (obeys r) (p1 .0));
+      rules = p1 .0;
       all = eqb-true tables 1024 (not-false (eqb tables 1024) (p2 .0));
       k-low = b .0;
       k-high = b .1;

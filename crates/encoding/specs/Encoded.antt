@@ -10,7 +10,7 @@ use Rattle.field.specs.Answer.{Outcome, Left, before, done, given, unless}
 use Rattle.field.specs.Octet.{plus, times}
 use Rattle.field.specs.Runs.{Written}
 use Rattle.field.specs.Sum.{sum}
-use Rattle.headers.specs.Row.{obeys, between, lOf, p1Of}
+use Rattle.headers.specs.Row.{verified, between, lOf, p1Of}
 use Rattle.headers.specs.Shift.{shifted}
 use Rattle.headers.specs.Tuples.{tupleOf}
 use Rattle.field.specs.declared.refusal.Answer as Plain
@@ -40,7 +40,7 @@ steps z = z .d + z .d1
 -- L * T octets, out below T
 abbrev pub allowed : Row → ℕ → ℕ → ℕ → ℕ → ℕ → ℕ → Outcome (Unit {0})
 allowed r tables k t esi have room =
-    unless (not (obeys r)) 4 (unless (not (eqb tables 1024)) 5 (unless (not (between 1 k (r .kp))) 9 (unless (leb 16777216 esi) 9
+    before (verified r) (unless (not (eqb tables 1024)) 5 (unless (not (between 1 k (r .kp))) 9 (unless (leb 16777216 esi) 9
     (unless (eqb t 0) 10 (unless (ltb have (lOf r * t)) 8 (unless (ltb room t) 8 (given tt)))))))
 
 -- and a walk that is longer than the working list of 32 places

@@ -23,9 +23,10 @@ fn check(
 ) -> refusal::Answer
     ensures { λ a. ⌜ done a ≡ allowed r tables k t esi have room ⌝ }
 {
-    if !row::obeys(r) {
-        return refusal::Answer::Refused(Refusal::BadRow);
-    }
+    let fine = row::verify(r);
+    let refusal::Answer::Done = fine else {
+        return fine;
+    };
     if tables != 1024 {
         return refusal::Answer::Refused(Refusal::BadTables);
     }

@@ -31,14 +31,14 @@ module _ {R A : Type 0} (of : R → Outcome A) {C : R → List ℕ → Type 0} w
   pub reports-once : Settled C → Settled (Reports of C)
   reports-once once q r ys zs u w =
       let e = once (u .below) (w .below) ys zs (u .meets) (w .meets) in
-      (u .number ∙ ap (λ (a : R). code (of a)) (e .0) ∙ sym (w .number), e .1)
+      (u .result ∙ ap (λ (a : R). code (of a)) (e .0) ∙ sym (w .result), e .1)
 
   -- and that the number is the outcome's: 0, and memory as P says, or the refusal's, and memory as it was
   pub reports-outcome : (o : Outcome A) (xs : List ℕ) (P : List ℕ → Type 0) {ys : List ℕ} {r : ℕ} → ((a : R) → C a ys → Does of o xs P a ys) → Reports of C r ys
       → (r ≡ code o) × Left o xs ys (P ys)
   reports-outcome o xs P {ys} means u =
       let d = means (u .below) (u .meets) in
-      (u .number ∙ ap code (d .0), subst (λ (p : Outcome A). Left p xs ys (P ys)) (d .0) (d .1))
+      (u .result ∙ ap code (d .0), subst (λ (p : Outcome A). Left p xs ys (P ys)) (d .0) (d .1))
 
 -- ---- runs
 

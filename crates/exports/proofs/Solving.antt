@@ -9,14 +9,14 @@ use native.Mathlib.Omega.{arith}
 use borrow.Author.Tests.{lt-ltb, le-ltb, lt-leb, ltb-false, eqb-false, not-false}
 use lib.Dec.{eqb, leb, ltb}
 use lib.ListN.{length}
-use Rattle.field.specs.Answer.{Outcome, given, refused, unless, before, numberOf}
+use Rattle.field.specs.Answer.{Outcome, given, refused, unless, before, codeOf}
 use Rattle.field.specs.Choice.{pick}
 use Rattle.field.specs.declared.refusal.Refusal.{Refusal}
 use Rattle.field.proofs.Answers.{given-not-refused}
 use Rattle.field.proofs.Writing.{written-once}
-use Rattle.headers.specs.Row.{obeys, lOf}
+use Rattle.headers.specs.Row.{Obeys, verified, lOf}
 use Rattle.headers.specs.declared.row.Row.{Row}
-use Rattle.headers.proofs.Accepted.{obeys-tells}
+use Rattle.headers.proofs.Rules.{obeying}
 use Rattle.elimination.specs.declared.verdict.Verdict.{Verdict}
 use Rattle.elimination.proofs.Once.{means-once}
 use Rattle.solver.specs.Display.{Place, arrived, rebuilt, anyLarge, located, whereof}
@@ -56,6 +56,13 @@ past : (b : Bool) (n : ℕ) (o p : Outcome (Unit {0})) → (b ≡ false → andR
 past true n o p h = refl
 past false n o p h = h refl
 
+past-row : (r : Row) (o p : Outcome (Unit {0})) → (Obeys r → andRoom o 0 1 ≡ p) → andRoom (before (verified r) o) 0 1 ≡ before (verified r) p
+past-row r o p h = go (verified r) (λ e. h (obeying e))
+  where
+    go : (x : Outcome (Unit {0})) → (x ≡ given tt → andRoom o 0 1 ≡ p) → andRoom (before x o) 0 1 ≡ before x p
+    go (given a) f = f refl
+    go (refused n) f = refl
+
 eight : (b : Bool) (o : Outcome (Unit {0})) → andRoom o 0 1 ≡ refused 8 → andRoom (unless b 8 o) 0 1 ≡ refused 8
 eight true o h = refl
 eight false o h = h
@@ -63,15 +70,15 @@ eight false o h = h
 -- a call without room for rows is refused as one is that has room for them, and none for what follows
 pub no-rows : (r : Row) (tables k t n : ℕ) (large : Bool) (came a d o : ℕ) → andRoom (solvable r tables k t n large came a d o) 0 1 ≡ solvable r tables k t n large came 0 d o
 no-rows r tables k t n large came a d o =
-    past (not (obeys r)) 4 _ _ (λ e. past (not (eqb tables 1024)) 5 _ _ (λ _.
+    past-row r _ _ (λ e. past (not (eqb tables 1024)) 5 _ _ (λ _.
     past large 9 _ _ (λ _. past (ltb k 1) 9 _ _ (λ _. past (ltb (r .kp) k) 9 _ _ (λ _. past (ltb 65535 n) 9 _ _ (λ _.
     past (eqb t 0) 10 _ _ (λ _. past (not (eqb came (n * t))) 10 _ _ (λ _.
     eight (ltb a (equations r k n * lOf r)) _ (eight (ltb d (equations r k n * t)) _ (eight (ltb o (lOf r * t)) (given tt) refl))
     ∙ sym (rw (lt-ltb 0 (equations r k n * lOf r) (some e)) refl)))))))))
   where
-    some : not (obeys r) ≡ false → 0 < equations r k n * lOf r
+    some : Obeys r → 0 < equations r k n * lOf r
     some e =
-        let s = obeys-tells r .passes (not-false (obeys r) e) .ranges in
+        let s = e .ranges in
         omega (arith, s .s-low, mul-le-mul {n₁ = 1} {m₁ = 1} {n₂ = equations r k n} {m₂ = lOf r} (omega (arith, s .s-low)) (omega (arith, s .s-low)))
 
 module _ (out : List ℕ) (p : Place) where
@@ -142,7 +149,7 @@ module _ (r : Row) (v : List ℕ) (k t : ℕ) (es xs a d o : List ℕ) where
   pub rows-wanted : (a₁ d₁ o₁ : List ℕ) (y : Solution) (x : Verdict) → Solves r v k t es xs [] d o a₁ d₁ o₁ y → y ≡ Given x → ⊥
   rows-wanted a₁ d₁ o₁ y x h e = never (admitted r v k t es xs a d o) (without ∙ subst (Solves r v k t es xs [] d o a₁ d₁ o₁) e h .0)
 
-  pub rows-refused : (a₁ d₁ o₁ : List ℕ) {n : ℕ} (y : Solution) (w : Refusal) → Solves r v k t es xs [] d o a₁ d₁ o₁ y → y ≡ Refused w → n ≡ numberOf w
+  pub rows-refused : (a₁ d₁ o₁ : List ℕ) {n : ℕ} (y : Solution) (w : Refusal) → Solves r v k t es xs [] d o a₁ d₁ o₁ y → y ≡ Refused w → n ≡ codeOf w
       → (n ≡ code (taken r v k t es xs a d o [])) × ((a₁ ++ a ≡ a) × (d₁ ≡ d) × (o₁ ≡ o))
   rows-refused a₁ d₁ o₁ {n} y w h e q =
       let u = subst (Solves r v k t es xs [] d o a₁ d₁ o₁) e h in
@@ -163,7 +170,7 @@ module _ (r : Row) (v : List ℕ) (k t : ℕ) (es xs a d o : List ℕ) where
         subst (λ (p : Outcome (Unit {0})). SolvingBy (andRoom p (length f) 1) r v k t es xs a d o f a₁ d₁ o₁ f₁ n) (sym (u .0))
         (rw (le-ltb (length f) 1 l) (x, u, q .0, q .1))
 
-    pub told-refused : (y : Solution) (w : Refusal) → Solves r v k t es xs a d o a₁ d₁ o₁ y → y ≡ Refused w → n ≡ numberOf w → Solving r v k t es xs a d o f a₁ d₁ o₁ f n
+    pub told-refused : (y : Solution) (w : Refusal) → Solves r v k t es xs a d o a₁ d₁ o₁ y → y ≡ Refused w → n ≡ codeOf w → Solving r v k t es xs a d o f a₁ d₁ o₁ f n
     told-refused y w h e q =
         let u = subst (Solves r v k t es xs a d o a₁ d₁ o₁) e h in
         subst (λ (p : Outcome (Unit {0})). SolvingBy (andRoom p (length f) 1) r v k t es xs a d o f a₁ d₁ o₁ f n) (sym (u .0)) (q, u .1, u .2, u .3, refl)

@@ -8,7 +8,7 @@ use lib.ListN.{length, getD}
 use Rattle.field.specs.Answer.{Outcome, given, refused, unless, before}
 use Rattle.field.specs.Runs.{Written}
 
--- 0 where the call was done, else the refusal's number
+-- 0 where the call was done, else the refusal's code: its number in the low byte, and its part above
 abbrev pub code : {A : Type 0} → Outcome A → ℕ
 code (given x) = 0
 code (refused n) = n
@@ -45,11 +45,11 @@ abbrev pub single : ℕ → List ℕ
 single x = x ∷ []
 
 -- A call of which C is told only whether it was done: the layer below answered `below` and made ys of the store, as its contract C says, and r is
--- the number of that answer.
+-- the code of that answer.
 pub record Reports {R A : Type 0} (of : R → Outcome A) (C : R → List ℕ → Type 0) (r : ℕ) (ys : List ℕ) : Type 0 where
   pub below : R
   pub meets : C below ys
-  pub number : r ≡ code (of below)
+  pub result : r ≡ code (of below)
 
 -- what is told of a list besides: how many places were written
 abbrev pub many : List ℕ → List ℕ

@@ -15,7 +15,7 @@ use crate::values::handed_row;
 use crate::values::told;
 use elimination::verdict::Verdict;
 use encoding::encoder;
-use field::refusal::number;
+use field::refusal::code;
 use headers::row::Row;
 use solver::display::Shown;
 use solver::display::locate;
@@ -83,7 +83,7 @@ fn unroomed(
     let none = &mut rows[0..0];
     match solve(r, tables, count, t, esis, symbols, none, values, out) {
         Solution::Given(_) => 8,
-        Solution::Refused(why) => number(why),
+        Solution::Refused(why) => code(why),
     }
 }
 
@@ -119,7 +119,7 @@ pub extern "C" fn spoonripple_solve(
     }
     match solve(r, tables, count, t, esis, symbols, rows, values, out) {
         Solution::Given(v) => tell(v, shortfall),
-        Solution::Refused(why) => number(why),
+        Solution::Refused(why) => code(why),
     }
 }
 
@@ -157,6 +157,6 @@ pub extern "C" fn spoonripple_display(
             let values = [1, from as u64];
             hand(&values, out)
         }
-        Shown::Refused(why) => number(why),
+        Shown::Refused(why) => code(why),
     }
 }

@@ -1,6 +1,6 @@
 // The C interface over all layers. A number passes as itself, a slice as pointer and length. The result is 0 where the
-// call was done, else the number of its refusal in document 01 (100 and 101 are the solver's contradiction and open); values
-// go to the front of a lent slice of u64.
+// call was done, else the code of its refusal, which is its number in document 01 in the low byte and its part above (100 and
+// 101 are the solver's contradiction and open); values go to the front of a lent slice of u64.
 pub mod blocks;
 pub mod matrices;
 pub mod octets;

@@ -7,7 +7,7 @@ ghost use Rattle.exports.specs.Call.{Called, Reports, code, listed, then
 ghost use Rattle.exports.specs.Numbers.{id, idNumbers, info, infoNumbers, packetNumbers};
 use crate::values::hand;
 use crate::values::told;
-use field::refusal::number;
+use field::refusal::code;
 use headers::packet;
 use headers::partition;
 use headers::payload_id;
@@ -25,7 +25,7 @@ pub extern "C" fn spoonripple_payload_id_read(bytes: &[u8], out: &mut [u64]) -> 
             let values = [i.source_block_number as u64, i.encoding_symbol_id as u64];
             hand(&values, out)
         }
-        payload_id::Answer::Refused(why) => number(why),
+        payload_id::Answer::Refused(why) => code(why),
     }
 }
 
@@ -56,7 +56,7 @@ pub extern "C" fn spoonripple_transmission_read(bytes: &[u8], out: &mut [u64]) -
             ];
             hand(&values, out)
         }
-        transmission::Answer::Refused(why) => number(why),
+        transmission::Answer::Refused(why) => code(why),
     }
 }
 
@@ -114,7 +114,7 @@ pub extern "C" fn spoonripple_packet_read(bytes: &[u8], out: &mut [u64]) -> u32
             ];
             hand(&values, out)
         }
-        packet::Answer::Refused(why) => number(why),
+        packet::Answer::Refused(why) => code(why),
     }
 }
 
@@ -139,6 +139,6 @@ pub extern "C" fn spoonripple_partition(i: u32, j: u32, out: &mut [u64]) -> u32
             let values = [il as u64, is as u64, jl as u64, js as u64];
             hand(&values, out)
         }
-        partition::Answer::Refused(why) => number(why),
+        partition::Answer::Refused(why) => code(why),
     }
 }

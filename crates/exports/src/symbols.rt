@@ -7,7 +7,7 @@ ghost use Rattle.exports.specs.Numbers.{bounds, slab};
 use crate::values::hand;
 use crate::values::told;
 use crate::values::told_slab;
-use field::refusal::number;
+use field::refusal::code;
 use slab::symbol_slab;
 use slab::symbol_slab::Range;
 use slab::symbol_slab::SymbolSlab;
@@ -43,7 +43,7 @@ pub extern "C" fn spoonripple_slab_locate(
             let values = [start as u64, end as u64];
             hand(&values, out)
         }
-        Range::Refused(why) => number(why),
+        Range::Refused(why) => code(why),
     }
 }
 

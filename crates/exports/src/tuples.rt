@@ -11,7 +11,7 @@ use crate::values::hand;
 use crate::values::hand_number;
 use crate::values::hand_one;
 use crate::values::handed_row;
-use field::refusal::number;
+use field::refusal::code;
 use headers::deg;
 use headers::ids;
 use headers::ids::Esi;
@@ -63,7 +63,7 @@ pub extern "C" fn spoonripple_row_check(
             ];
             hand(&values, out)
         }
-        Checked::Refused(why) => number(why),
+        Checked::Refused(why) => code(why),
     }
 }
 
@@ -89,7 +89,7 @@ pub extern "C" fn spoonripple_isi(
     let r = handed_row(k, j, s, h, w, l, p, b, p1);
     match ids::isi_of(r, count, Esi(esi)) {
         Shifted::Value(x) => hand_one(ids::number(x) as u64, out),
-        Shifted::Refused(why) => number(why),
+        Shifted::Refused(why) => code(why),
     }
 }
 
@@ -126,6 +126,6 @@ pub extern "C" fn spoonripple_tuple(
             ];
             hand(&values, out)
         }
-        Generated::Refused(why) => number(why),
+        Generated::Refused(why) => code(why),
     }
 }

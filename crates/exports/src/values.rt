@@ -10,7 +10,7 @@ ghost use Rattle.exports.specs.Call.{Called, code, listed, single, roome
 ghost use Rattle.exports.specs.Numbers.{row};
 use field::octet;
 use field::refusal::Answer;
-use field::refusal::number;
+use field::refusal::code;
 use headers::number::Number;
 use headers::row::Row;
 use slab::symbol_slab;
@@ -39,7 +39,7 @@ pub fn told(a: Answer) -> u32
 {
     match a {
         Answer::Done => 0,
-        Answer::Refused(why) => number(why),
+        Answer::Refused(why) => code(why),
     }
 }
 
@@ -49,7 +49,7 @@ pub fn told_number(n: Number) -> u32
 {
     match n {
         Number::Value(_) => 0,
-        Number::Refused(why) => number(why),
+        Number::Refused(why) => code(why),
     }
 }
 
@@ -58,7 +58,7 @@ pub fn told_matrix(m: matrix::Made) -> u32
 {
     match m {
         matrix::Made::Matrix(_) => 0,
-        matrix::Made::Refused(why) => number(why),
+        matrix::Made::Refused(why) => code(why),
     }
 }
 
@@ -67,7 +67,7 @@ pub fn told_slab(m: symbol_slab::Made) -> u32
 {
     match m {
         symbol_slab::Made::Slab(_) => 0,
-        symbol_slab::Made::Refused(why) => number(why),
+        symbol_slab::Made::Refused(why) => code(why),
     }
 }
 
@@ -99,7 +99,7 @@ pub fn hand_octet(a: octet::Answer, out: &mut [u64]) -> u32
 {
     match a {
         octet::Answer::Octet(x) => hand_one(x as u64, out),
-        octet::Answer::Refused(why) => number(why),
+        octet::Answer::Refused(why) => code(why),
     }
 }
 
@@ -108,7 +108,7 @@ pub fn hand_number(n: Number, out: &mut [u64]) -> u32
 {
     match n {
         Number::Value(x) => hand_one(x as u64, out),
-        Number::Refused(why) => number(why),
+        Number::Refused(why) => code(why),
     }
 }
 
@@ -117,6 +117,6 @@ pub fn hand_count(c: Count, out: &mut [u64]) -> u32
 {
     match c {
         Count::Ones(n) => hand_one(n as u64, out),
-        Count::Refused(why) => number(why),
+        Count::Refused(why) => code(why),
     }
 }

@@ -4,12 +4,12 @@ use mathlib.Core.Path.{_≡_, refl, sym, ap, _∙_, subst}
 use mathlib.Core.Bool.{Bool, true, false}
 use mathlib.Core.List.{List}
 use Prim.Native.Nat.{ℕ}
-use Rattle.field.specs.Answer.{Outcome, given, refused, unless, before, Left, Does, done, numberOf}
+use Rattle.field.specs.Answer.{Outcome, given, refused, unless, before, Left, Does, done, codeOf}
 use Rattle.field.specs.Runs.{Written}
 use Rattle.field.specs.declared.refusal.Refusal.{Refusal}
 use Rattle.field.specs.declared.refusal.Answer as Plain
 use Rattle.field.specs.declared.refusal.Answer.the-variants as Plains
-use Rattle.field.proofs.Answers.{given-not-refused, named-number, answerOf, answer-only}
+use Rattle.field.proofs.Answers.{given-not-refused, named-code, answerOf, answer-only}
 use Rattle.field.proofs.Writing.{written-once}
 
 -- no refusal: the test failed, and what follows refuses nothing either
@@ -26,7 +26,7 @@ module _ {B : Type 0} {p : Outcome (Unit {0})} (x : Plain.Answer) (q : done x �
   pub went-on : x ≡ Plains.Done → before p o ≡ o
   went-on e = ap (λ (y : Outcome (Unit {0})). before y o) (sym q) ∙ ap (λ (y : Plain.Answer). before (done y) o) e
 
-  pub stopped : (why : Refusal) → x ≡ Plains.Refused why → refused (numberOf why) ≡ before p o
+  pub stopped : (why : Refusal) → x ≡ Plains.Refused why → refused (codeOf why) ≡ before p o
   stopped why e = sym (ap (λ (y : Outcome (Unit {0})). before y o) (sym q) ∙ ap (λ (y : Plain.Answer). before (done y) o) e)
 
 pub told : {p : Outcome (Unit {0})} (x : Plain.Answer) → done x ≡ p → x ≡ Plains.Done → p ≡ given tt
@@ -34,7 +34,7 @@ told x q e = sym q ∙ ap done e
 
 done-back : (x : Plain.Answer) → answerOf (λ _. Plains.Done) Plains.Refused (done x) ≡ x
 done-back Plains.Done = refl
-done-back (Plains.Refused w) = ap Plains.Refused (named-number w)
+done-back (Plains.Refused w) = ap Plains.Refused (named-code w)
 
 -- an answer is settled by what it stands for
 pub done-only : (x y : Plain.Answer) → done x ≡ done y → x ≡ y

@@ -1,11 +1,14 @@
--- What a call that may refuse answers: a value, or the number of the refusal in document 01's table. Every layer's answers are read so.
+-- What a call that may refuse answers: a value, or the code of the refusal, which is its number in document 01's table and its part. Every layer's
+-- answers are read so.
 -- Assumes nothing.
 use mathlib.Core.Path.{_≡_}
 use mathlib.Core.Bool.{Bool, true, false}
 use mathlib.Core.List.{List}
-use Prim.Native.Nat.{ℕ}
+use Prim.Native.Nat.{ℕ, _+_, _*_, _/_, _%_}
 use lib.Dec.{eqb, ltb}
 use Rattle.field.specs.Octet.{power, over}
+use Rattle.field.specs.declared.refusal.Part.{Part}
+use Rattle.field.specs.declared.refusal.Part.the-variants as Parts
 use Rattle.field.specs.declared.refusal.Refusal.{Refusal}
 use Rattle.field.specs.declared.refusal.Refusal.the-variants as Why
 use Rattle.field.specs.declared.refusal.Answer as Plain
@@ -41,7 +44,7 @@ abbrev pub numberOf : Refusal → ℕ
 numberOf Why.DivisorZero = 1
 numberOf Why.OutOfRange = 2
 numberOf Why.BadTransmission = 3
-numberOf Why.BadRow = 4
+numberOf (Why.BadRow part) = 4
 numberOf Why.BadTables = 5
 numberOf Why.Outside = 6
 numberOf Why.SamePlace = 7
@@ -49,15 +52,54 @@ numberOf Why.WrongLength = 8
 numberOf Why.BadCount = 9
 numberOf Why.BadSize = 10
 
+-- document 02, E7: where the rule of a part stands among the rules of a row
+abbrev pub placeOf : Part → ℕ
+placeOf Parts.Wide = 1
+placeOf Parts.Kp = 2
+placeOf Parts.S = 3
+placeOf Parts.H = 4
+placeOf Parts.W = 5
+placeOf Parts.B = 6
+placeOf Parts.P = 7
+placeOf Parts.Ldpc = 8
+placeOf Parts.L = 9
+placeOf Parts.Derived = 10
+
+-- a refused row has a part, every other refusal none
+abbrev pub partOf : Refusal → ℕ
+partOf Why.DivisorZero = 0
+partOf Why.OutOfRange = 0
+partOf Why.BadTransmission = 0
+partOf (Why.BadRow part) = placeOf part
+partOf Why.BadTables = 0
+partOf Why.Outside = 0
+partOf Why.SamePlace = 0
+partOf Why.WrongLength = 0
+partOf Why.BadCount = 0
+partOf Why.BadSize = 0
+
+-- number and part as one, which an outcome carries and C is told; the theorems `code-number` and `code-part` say that it is read back so
+abbrev pub coded : ℕ → ℕ → ℕ
+coded number part = number + 256 * part
+
+abbrev pub numberIn : ℕ → ℕ
+numberIn code = code % 256
+
+abbrev pub partIn : ℕ → ℕ
+partIn code = code / 256
+
+abbrev pub codeOf : Refusal → ℕ
+codeOf why = coded (numberOf why) (partOf why)
+
 -- what each case of an answer with no value stands for
 abbrev pub done : Plain.Answer → Outcome (Unit {0})
 done Plains.Done = given tt
-done (Plains.Refused why) = refused (numberOf why)
+done (Plains.Refused why) = refused (codeOf why)
 
 -- what each case of the octets' answer stands for
 abbrev pub octetOutcome : Answer → Outcome ℕ
 octetOutcome (Answers.Octet x) = given x
-octetOutcome (Answers.Refused why) = refused (numberOf why)
+octetOutcome (Answers.Refused why) = refused (codeOf why)
 
 -- what a division answers
 abbrev pub divided : ℕ → ℕ → Outcome ℕ

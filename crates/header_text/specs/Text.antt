@@ -5,7 +5,7 @@ use mathlib.Core.List.{List, [], _∷_, _++_}
 use Prim.Native.Nat.{ℕ, zero, suc, _+_, _/_, _%_, _≤_}
 use lib.Dec.{ltb}
 use lib.ListN.{length, take, drop}
-use Rattle.field.specs.Answer.{Outcome, given, refused}
+use Rattle.field.specs.Answer.{Outcome, given, refused, numberIn}
 use Rattle.field.specs.Choice.{pick}
 use Rattle.headers.specs.Bytes.{Laid}
 use Rattle.headers.specs.Headers.{infoChecked, readId, readInfo}
@@ -38,12 +38,12 @@ refusedLine = line (114 ∷ 101 ∷ 102 ∷ 117 ∷ 115 ∷ 101 ∷ 100 ∷ 32 �
 -- 'accepted', or why not
 abbrev pub verdictLine : Outcome (Unit {0}) → List ℕ
 verdictLine (given _) = 97 ∷ 99 ∷ 99 ∷ 101 ∷ 112 ∷ 116 ∷ 101 ∷ 100 ∷ 10 ∷ []
-verdictLine (refused n) = refusedLine n
+verdictLine (refused n) = refusedLine (numberIn n)
 
 -- what was read, and the verdict of the check; or the refusal of a part that could not be read
 abbrev pub told : Outcome ObjectTransmissionInformation → Outcome PayloadId → List ℕ
-told (refused n) i = refusedLine n
-told (given o) (refused n) = refusedLine n
+told (refused n) i = refusedLine (numberIn n)
+told (given o) (refused n) = refusedLine (numberIn n)
 told (given o) (given i) = infoLines o ++ (idLines i ++ verdictLine (infoChecked o))
 
 -- twelve bytes of transmission information, and four of a payload id

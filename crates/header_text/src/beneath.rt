@@ -3,7 +3,7 @@
 ghost use mathlib.Core.Path.{_≡_};
 ghost use Prim.Native.Nat.{_+_, _≤_, min};
 ghost use lib.ListN.{length};
-ghost use Rattle.field.specs.Answer.{done, given, numberOf};
+ghost use Rattle.field.specs.Answer.{codeOf, done, given, numberIn};
 ghost use Rattle.io.specs.Counts.{Counts};
 ghost use Rattle.headers.specs.Headers.{readId};
 ghost use Rattle.header_text.specs.Text.{Lined, idLines, infoLines, line, refusedLine, textOf, told, verdictLine};
@@ -89,7 +89,7 @@ fn verdict_line(out: &mut [u8], at: usize, verdict: refusal::Answer) -> usize
 
 pub fn refusal_line(out: &mut [u8], at: usize, why: Refusal) -> usize
     requires { ⌜ at + 29 ≤ length (now out) ⌝ }
-    ensures { λ r. ⌜ Lined (refusedLine (numberOf why)) 29 (now (out .entry)) (now (out .exit)) at r ⌝ }
+    ensures { λ r. ⌜ Lined (refusedLine (numberIn (codeOf why))) 29 (now (out .entry)) (now (out .exit)) at r ⌝ }
 {
     number_line(out, at, b"refused ", refusal::number(why) as u64)
 }

@@ -1,100 +1,24 @@
--- The tests of a row decide its rules; what the rules of a row imply; and what the answer of a check tells.
+-- What the rules of a row imply, and what the answer of a check tells.
 -- Assumes nothing.
 use mathlib.Core.Path.{_≡_, refl, sym, ap, subst}
-use mathlib.Core.Bool.{Bool, true, false, not}
 use mathlib.Core.List.{List}
 use Prim.Native.Nat.{ℕ, _+_, _-_, _*_, _%_, _≤_, _<_}
 use native.Mathlib.Decide.{ℕ-discrete}
 use native.Mathlib.Omega.{arith}
 use lib.ListN.{length}
-use borrow.Author.Tests.{not-false}
-use Rattle.field.specs.Answer.{given, refused, unless}
-use Rattle.field.proofs.Answers.{given-only, refused-only, given-not-refused}
-use Rattle.field.proofs.Refusals.{passed}
-use Rattle.headers.specs.Prime.{Prime, FirstFrom, clear, prime}
-use Rattle.headers.specs.Row.{Obeys, obeys, between, Derived, sixteen, fitting, bands, lOf, pOf, bOf, p1Of, completed, checked, rowChecked}
+use Rattle.field.specs.Answer.{Outcome, given, refused, before, codeOf, placeOf}
+use Rattle.field.specs.declared.refusal.Part.{Part}
+use Rattle.field.specs.declared.refusal.Part.the-variants as Parts
+use Rattle.field.specs.declared.refusal.Refusal.the-variants as Why
+use Rattle.field.proofs.Answers.{given-only, refused-only, given-not-refused, place-high}
+use Rattle.field.proofs.Refusals.{passed-before}
+use Rattle.headers.specs.Prime.{Prime, FirstFrom, clear}
+use Rattle.headers.specs.Row.{Obeys, Derived, Rule, Refuses, verified, lOf, pOf, bOf, p1Of, completed, checked, rowChecked}
 use Rattle.headers.specs.Tuples.{Ready}
 use Rattle.headers.specs.declared.row.Row.{Row}
-use Rattle.headers.proofs.Tests.{Tells, tells-both, tells-as, tells-le, tells-lt, tells-eq, is-true, is-false, tells-true, is-test}
-use Rattle.headers.proofs.Primes.{trial, clear-tells, prime-tells, first-from, first-high}
-
-within : (low n high : ℕ) → Tells (between low n high) ((low ≤ n) × (n ≤ high))
-within low n high = tells-both (tells-le low n) (tells-le n high)
-
-small : (r : Row) → Tells (sixteen r) ((r .kp < 65536) × ((r .j < 65536) × ((r .s < 65536) × ((r .h < 65536) × (r .w < 65536)))))
-small r =
-    tells-both (tells-lt (r .kp) 65536) (tells-both (tells-lt (r .j) 65536) (tells-both (tells-lt (r .s) 65536)
-    (tells-both (tells-lt (r .h) 65536) (tells-lt (r .w) 65536))))
-
-fits : (r : Row) → Tells (fitting r) ((r .l ≡ lOf r) × ((r .p ≡ pOf r) × ((r .b ≡ bOf r) × (r .p1 ≡ p1Of r))))
-fits r = tells-both (tells-eq (r .l) (lOf r)) (tells-both (tells-eq (r .p) (pOf r)) (tells-both (tells-eq (r .b) (bOf r)) (tells-eq (r .p1) (p1Of r))))
-
--- the tests decide the rules
-pub obeys-tells : (r : Row) → Tells (obeys r) (Obeys r)
-unfolding obeys
-obeys-tells r =
-    tells-as
-    (λ t. record {
-      ranges =
-          record {
-            kp-16 = t .0 .0;
-            j-16 = t .0 .1 .0;
-            s-16 = t .0 .1 .1 .0;
-            h-16 = t .0 .1 .1 .1 .0;
-            w-16 = t .0 .1 .1 .1 .1;
-            kp-low = t .1 .0 .0;
-            kp-high = t .1 .0 .1;
-            s-odd = t .1 .1 .0 .0;
-            s-low = t .1 .1 .0 .1;
-            h-low = t .1 .1 .1 .0 .0;
-            h-high = t .1 .1 .1 .0 .1;
-          };
-      w-prime = t .1 .1 .1 .1 .0;
-      b-low = t .1 .1 .1 .1 .1 .0;
-      p-low = t .1 .1 .1 .1 .1 .1 .0;
-      b-high = t .1 .1 .1 .1 .1 .1 .1 .0;
-      l-high = t .1 .1 .1 .1 .1 .1 .1 .1 .0;
-      derived =
-          let d = t .1 .1 .1 .1 .1 .1 .1 .1 .1 .0 in
-          record { l-fits = d .0; p-fits = d .1 .0; b-fits = d .1 .1 .0; p1-fits = d .1 .1 .1 };
-    })
-    (λ o. let n = o .ranges in let d = o .derived in (
-      (n .kp-16, (n .j-16, (n .s-16, (n .h-16, n .w-16)))),
-      (
-        (n .kp-low, n .kp-high),
-        (
-          (n .s-odd, n .s-low),
-          (
-            (n .h-low, n .h-high),
-            (
-              o .w-prime,
-              (
-                o .b-low,
-                (
-                  o .p-low,
-                  (
-                    o .b-high,
-                    (
-                      o .l-high,
-                      ((d .l-fits, (d .p-fits, (d .b-fits, d .p1-fits))), refl),
-                    ),
-                  ),
-                ),
-              ),
-            ),
-          ),
-        ),
-      ),
-    ))
-    (tells-both (small r) (tells-both (within 1 (r .kp) 56403) (tells-both (tells-both (tells-eq (r .s % 2) 1) (tells-le 3 (r .s)))
-    (tells-both (within 2 (r .h) 255) (tells-both (prime-tells (r .w)) (tells-both (tells-le 1 (bOf r)) (tells-both (tells-le 3 (pOf r))
-    (tells-both (tells-lt (bands r) (r .s)) (tells-both (tells-le (lOf r) 65535) (tells-both (fits r) tells-true))))))))))
-
-pub obeyed : {r : Row} → Obeys r → obeys r ≡ true
-obeyed {r} o = is-true (obeys-tells r) o
-
-pub broken : {r : Row} → (Obeys r → ⊥) → obeys r ≡ false
-broken {r} n = is-false (obeys-tells r) n
+use Rattle.headers.proofs.Tests.{is-test}
+use Rattle.headers.proofs.Primes.{trial, clear-tells, first-from, first-high}
+use Rattle.headers.proofs.Rules.{obeyed, obeying, rule-of, first-broken, broken-first}
 
 -- the last P1 there is
 highest : Prime 56659
@@ -194,25 +118,64 @@ with-derived o d =
       derived = d;
     }
 
+-- The same, rule by rule; so what is wrong with five numbers is wrong with any record of them.
+module _ (r : Row) where
+  own-rule : (part : Part) → placeOf part < 10 → Rule (completed r) part → Rule r part
+  own-rule Parts.Wide h a = a
+  own-rule Parts.Kp h a = a
+  own-rule Parts.S h a = a
+  own-rule Parts.H h a = a
+  own-rule Parts.W h a = a
+  own-rule Parts.B h a = a
+  own-rule Parts.P h a = a
+  own-rule Parts.Ldpc h a = a
+  own-rule Parts.L h a = a
+  own-rule Parts.Derived h a = absurd (omega arith)
+
+  five-rule : (part : Part) → Rule r part → Rule (completed r) part
+  five-rule Parts.Wide a = a
+  five-rule Parts.Kp a = a
+  five-rule Parts.S a = a
+  five-rule Parts.H a = a
+  five-rule Parts.W a = a
+  five-rule Parts.B a = a
+  five-rule Parts.P a = a
+  five-rule Parts.Ldpc a = a
+  five-rule Parts.L a = a
+  five-rule Parts.Derived a = record { l-fits = refl; p-fits = refl; b-fits = refl; p1-fits = refl }
+
+  pub five-refused : (part : Part) → Refuses (completed r) part → Refuses r part
+  five-refused part e =
+      let f = first-broken (completed r) part e in
+      broken-first r part
+      (record {
+        earlier = λ other h. own-rule other (omega (arith, h, place-high part)) (f .earlier other h);
+        breaks = λ a. f .breaks (five-rule part a);
+      })
+
+  -- the nine rules of the five numbers hold, and the tenth does not
+  pub breaks-derived : Obeys (completed r) → (Derived r → ⊥) → Refuses r Parts.Derived
+  breaks-derived o n = broken-first r Parts.Derived (record { earlier = λ other h. own-rule other h (rule-of o other); breaks = n })
+
 -- what the check answers of a record that it made, and what its answer tells
 module _ (r : Row) where
-  pub refused-row : (Obeys r → ⊥) → refused 4 ≡ checked r
-  refused-row n = simp (broken n)
+  pub refused-row : (part : Part) → Refuses r part → refused (codeOf (Why.BadRow part)) ≡ checked r
+  refused-row part e = sym (ap (λ (o : Outcome (Unit {0})). before o (given r)) e)
 
   pub made-row : {x : Row} → x ≡ r → Obeys r → given x ≡ checked r
   made-row e o = simp (obeyed o) (ap given e)
 
   pub accepted : (x : Row) → given x ≡ checked r → (Obeys r) × (x ≡ r)
   accepted x e =
-      let p = passed (not (obeys r)) 4 (given r) x (sym e) in
-      (obeys-tells r .passes (not-false (obeys r) (p .0)), given-only x r (sym (p .1)))
+      let p = passed-before (verified r) (given r) x (sym e) in
+      (obeying (p .1), given-only x r (sym (p .2)))
 
-  pub rejected : (n : ℕ) → refused n ≡ checked r → (n ≡ 4) × (Obeys r → ⊥)
-  rejected n = go (obeys r) (obeys-tells r)
+  pub rejected : (n : ℕ) → refused n ≡ checked r → verified r ≡ refused n
+  rejected n = go (verified r)
     where
-      go : (b : Bool) → Tells b (Obeys r) → refused n ≡ unless (not b) 4 (given r) → (n ≡ 4) × (Obeys r → ⊥)
-      go true t e = absurd (given-not-refused r n (sym e))
-      go false t e = (refused-only n 4 e, t .breaks refl)
+      go : (o : Outcome (Unit {0})) → refused n ≡ before o (given r) → o ≡ refused n
+      go (given a) e = absurd (given-not-refused r n (sym e))
+      go (refused m) e = ap refused (refused-only m n (sym e))
 
   -- a record is accepted exactly when it is what the check makes of its five numbers
   pub obeys-made : Obeys r → rowChecked (r .kp) (r .j) (r .s) (r .h) (r .w) ≡ given r

@@ -5,7 +5,7 @@ use mathlib.Core.List.{List}
 use Prim.Native.Nat.{ℕ}
 use lib.ListN.{length, getD}
 use Rattle.field.specs.Answer.{Outcome, done}
-use Rattle.field.proofs.Answers.{named-number, answerOf, answer-only}
+use Rattle.field.proofs.Answers.{named-code, answerOf, answer-only}
 use Rattle.field.proofs.Refusals.{settled-written, done-only}
 use Rattle.headers.specs.Headers.{Stores, idOutcome, infoOutcome, headOutcome, packetOutcome}
 use Rattle.headers.specs.Partition.{partitionOutcome}
@@ -24,28 +24,28 @@ module _ {o : Outcome (Unit {0})} {bs xs ys zs : List ℕ} where
 
 id-back : (a : Ids.Answer) → answerOf Ids.the-variants.Id Ids.the-variants.Refused (idOutcome a) ≡ a
 id-back (Ids.the-variants.Id x) = refl
-id-back (Ids.the-variants.Refused w) = ap Ids.the-variants.Refused (named-number w)
+id-back (Ids.the-variants.Refused w) = ap Ids.the-variants.Refused (named-code w)
 
 pub id-only : (p q : Ids.Answer) → idOutcome p ≡ idOutcome q → p ≡ q
 id-only = answer-only idOutcome Ids.the-variants.Id Ids.the-variants.Refused id-back
 
 info-back : (a : Infos.Answer) → answerOf Infos.the-variants.Information Infos.the-variants.Refused (infoOutcome a) ≡ a
 info-back (Infos.the-variants.Information x) = refl
-info-back (Infos.the-variants.Refused w) = ap Infos.the-variants.Refused (named-number w)
+info-back (Infos.the-variants.Refused w) = ap Infos.the-variants.Refused (named-code w)
 
 pub info-only : (p q : Infos.Answer) → infoOutcome p ≡ infoOutcome q → p ≡ q
 info-only = answer-only infoOutcome Infos.the-variants.Information Infos.the-variants.Refused info-back
 
 head-back : (a : Heads.Head) → answerOf (λ x. Heads.the-variants.Id (x .0) (record { at = x .1 })) Heads.the-variants.Refused (headOutcome a) ≡ a
 head-back (Heads.the-variants.Id x c) = refl
-head-back (Heads.the-variants.Refused w) = ap Heads.the-variants.Refused (named-number w)
+head-back (Heads.the-variants.Refused w) = ap Heads.the-variants.Refused (named-code w)
 
 pub head-only : (p q : Heads.Head) → headOutcome p ≡ headOutcome q → p ≡ q
 head-only = answer-only headOutcome (λ x. Heads.the-variants.Id (x .0) (record { at = x .1 })) Heads.the-variants.Refused head-back
 
 packet-back : (a : Packets.Answer) → answerOf (λ x. Packets.the-variants.Packet (x .0) (x .1) (x .2)) Packets.the-variants.Refused (packetOutcome a) ≡ a
 packet-back (Packets.the-variants.Packet x f l) = refl
-packet-back (Packets.the-variants.Refused w) = ap Packets.the-variants.Refused (named-number w)
+packet-back (Packets.the-variants.Refused w) = ap Packets.the-variants.Refused (named-code w)
 
 pub packet-only : (p q : Packets.Answer) → packetOutcome p ≡ packetOutcome q → p ≡ q
 packet-only = answer-only packetOutcome (λ x. Packets.the-variants.Packet (x .0) (x .1) (x .2)) Packets.the-variants.Refused packet-back
@@ -56,7 +56,7 @@ four x = Parts.the-variants.Parts (getD x 0 0) (getD x 1 0) (getD x 2 0) (getD x
 
 partition-back : (a : Parts.Answer) → answerOf four Parts.the-variants.Refused (partitionOutcome a) ≡ a
 partition-back (Parts.the-variants.Parts a b c d) = refl
-partition-back (Parts.the-variants.Refused w) = ap Parts.the-variants.Refused (named-number w)
+partition-back (Parts.the-variants.Refused w) = ap Parts.the-variants.Refused (named-code w)
 
 pub partition-only : (p q : Parts.Answer) → partitionOutcome p ≡ partitionOutcome q → p ≡ q
 partition-only = answer-only partitionOutcome four Parts.the-variants.Refused partition-back

@@ -7,6 +7,7 @@ pub mod RoundTrip
 pub mod Parting
 pub mod Primes
 pub mod Rising
+pub mod Rules
 pub mod Accepted
 pub mod Shifts
 pub mod Tuples

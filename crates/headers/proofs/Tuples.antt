@@ -17,10 +17,11 @@ use Rattle.field.proofs.Refusals.{passed}
 use Rattle.headers.specs.Rand.{mixed, random}
 use Rattle.headers.specs.Degree.{degree}
 use Rattle.headers.specs.Tuples.{seed, piDegree, tupleOf, Bounds, Ready, tupleAnswer}
-use Rattle.headers.specs.Row.{Obeys, obeys, p1Of}
+use Rattle.headers.specs.Row.{Obeys, p1Of}
 use Rattle.headers.specs.declared.row.Row.{Row}
 use Rattle.headers.specs.declared.tuple.Tuple.{Tuple}
-use Rattle.headers.proofs.Accepted.{obeys-tells, ready}
+use Rattle.headers.proofs.Rules.{passed-row}
+use Rattle.headers.proofs.Accepted.{ready}
 use Rattle.headers.proofs.Rising.{degree-high, degree-low, degree-w}
 
 pub random-lt : (v : List ℕ) (y i m : ℕ) → 0 < m → random v y i m < m
@@ -85,9 +86,9 @@ module _ (r : Row) (v : List ℕ) (x : ℕ) (t : Tuple) (e : given t ≡ tupleAn
   pub generated : (Obeys r) × (length v ≡ 1024) × (t ≡ tupleOf v (r .j) (r .w) (p1Of r) x)
   generated =
       let rest = given (tupleOf v (r .j) (r .w) (p1Of r) x) in
-      let p = passed (not (obeys r)) 4 (unless (not (eqb (length v) 1024)) 5 rest) t (sym e) in
+      let p = passed-row (unless (not (eqb (length v) 1024)) 5 rest) t (sym e) in
       let q = passed (not (eqb (length v) 1024)) 5 rest t (p .1) in (
-        obeys-tells r .passes (not-false (obeys r) (p .0)),
+        p .0,
         eqb-true (length v) 1024 (not-false (eqb (length v) 1024) (q .0)),
         given-only t (tupleOf v (r .j) (r .w) (p1Of r) x) (sym (q .1)),
       )

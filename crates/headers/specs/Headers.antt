@@ -6,7 +6,7 @@ use mathlib.Core.List.{List, _++_}
 use Prim.Native.Nat.{ℕ, _+_, _-_, _%_}
 use lib.Dec.{eqb, ltb}
 use lib.ListN.{length}
-use Rattle.field.specs.Answer.{Outcome, Left, done, given, refused, numberOf, unless}
+use Rattle.field.specs.Answer.{Outcome, Left, done, given, refused, codeOf, unless}
 use Rattle.field.specs.Choice.{both}
 use Rattle.headers.specs.Bytes.{Laid, inBytes, number}
 use Rattle.headers.specs.Quotient.{ceil}
@@ -38,7 +38,7 @@ idAt s = record { «source_block_number» = number s 0 1; «encoding_symbol_id»
 
 abbrev pub idOutcome : Ids.Answer → Outcome PayloadId
 idOutcome (Ids.the-variants.Id i) = given i
-idOutcome (Ids.the-variants.Refused why) = refused (numberOf why)
+idOutcome (Ids.the-variants.Refused why) = refused (codeOf why)
 
 abbrev pub readId : List ℕ → Outcome PayloadId
 readId s = unless (not (eqb (length s) 4)) 8 (given (idAt s))
@@ -69,7 +69,7 @@ infoAt s =
 
 abbrev pub infoOutcome : Infos.Answer → Outcome ObjectTransmissionInformation
 infoOutcome (Infos.the-variants.Information o) = given o
-infoOutcome (Infos.the-variants.Refused why) = refused (numberOf why)
+infoOutcome (Infos.the-variants.Refused why) = refused (codeOf why)
 
 abbrev pub readInfo : List ℕ → Outcome ObjectTransmissionInformation
 readInfo s = unless (not (eqb (length s) 12)) 8 (given (infoAt s))
@@ -98,7 +98,7 @@ headed s = unless (ltb (length s) 4) 8 (given (idAt s, 4))
 
 abbrev pub headOutcome : Heads.Head → Outcome (PayloadId × ℕ)
 headOutcome (Heads.the-variants.Id i c) = given (i, c .at)
-headOutcome (Heads.the-variants.Refused why) = refused (numberOf why)
+headOutcome (Heads.the-variants.Refused why) = refused (codeOf why)
 
 abbrev pub refusalOf : Heads.Head → Refusal
 refusalOf (Heads.the-variants.Id i c) = Why.WrongLength
@@ -110,7 +110,7 @@ readPacket s = unless (ltb (length s) 4) 8 (given (idAt s, 4, length s - 4))
 
 abbrev pub packetOutcome : Packets.Answer → Outcome (PayloadId × ℕ × ℕ)
 packetOutcome (Packets.the-variants.Packet i from len) = given (i, from, len)
-packetOutcome (Packets.the-variants.Refused why) = refused (numberOf why)
+packetOutcome (Packets.the-variants.Refused why) = refused (codeOf why)
 
 -- an id and n bytes more
 abbrev pub roomForPacket : PayloadId → ℕ → ℕ → Outcome (Unit {0})

@@ -3,7 +3,7 @@
 use mathlib.Core.List.{List, [], _∷_}
 use Prim.Native.Nat.{ℕ, _-_, _*_, _/_}
 use lib.Dec.{eqb}
-use Rattle.field.specs.Answer.{Outcome, given, refused, numberOf, unless}
+use Rattle.field.specs.Answer.{Outcome, given, refused, codeOf, unless}
 use Rattle.headers.specs.Quotient.{ceil}
 use Rattle.headers.specs.declared.partition.Answer.{Answer}
 use Rattle.headers.specs.declared.partition.Answer.the-variants as Answers
@@ -14,7 +14,7 @@ parts i j = ceil i j ∷ i / j ∷ (i - i / j * j) ∷ (j - (i - i / j * j)) ∷
 
 abbrev pub partitionOutcome : Answer → Outcome (List ℕ)
 partitionOutcome (Answers.Parts il is jl js) = given (il ∷ is ∷ jl ∷ js ∷ [])
-partitionOutcome (Answers.Refused why) = refused (numberOf why)
+partitionOutcome (Answers.Refused why) = refused (codeOf why)
 
 abbrev pub partitioned : ℕ → ℕ → Outcome (List ℕ)
 partitioned i j = unless (eqb j 0) 2 (given (parts i j))

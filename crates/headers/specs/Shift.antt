@@ -4,8 +4,8 @@ use mathlib.Core.Bool.{not}
 use Prim.Native.Nat.{ℕ, _+_, _-_}
 use lib.Dec.{leb, ltb}
 use Rattle.field.specs.Choice.{pick}
-use Rattle.field.specs.Answer.{Outcome, given, refused, numberOf, unless}
-use Rattle.headers.specs.Row.{obeys, between}
+use Rattle.field.specs.Answer.{Outcome, given, refused, codeOf, unless, before}
+use Rattle.headers.specs.Row.{verified, between}
 use Rattle.headers.specs.declared.row.Row.{Row}
 use Rattle.headers.specs.declared.ids.Shifted.{Shifted}
 use Rattle.headers.specs.declared.ids.Shifted.the-variants.{Value, Refused}
@@ -17,8 +17,8 @@ shifted esi k kp = pick (ltb esi k) esi (esi + (kp - k))
 -- what the shift answers
 abbrev pub isiAnswer : Row → ℕ → ℕ → Outcome ℕ
 isiAnswer r k esi =
-    unless (not (obeys r)) 4 (unless (leb 16777216 esi) 9 (unless (not (between 1 k (r .kp))) 9 (given (shifted esi k (r .kp)))))
+    before (verified r) (unless (leb 16777216 esi) 9 (unless (not (between 1 k (r .kp))) 9 (given (shifted esi k (r .kp)))))
 
 abbrev pub isiOutcome : Shifted → Outcome ℕ
 isiOutcome (Value i) = given (i .0)
-isiOutcome (Refused why) = refused (numberOf why)
+isiOutcome (Refused why) = refused (codeOf why)

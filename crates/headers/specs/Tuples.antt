@@ -7,10 +7,10 @@ use Prim.Native.Nat.{ℕ, _+_, _-_, _*_, _%_, _<_, _≤_}
 use lib.Dec.{ltb, eqb}
 use lib.ListN.{length}
 use Rattle.field.specs.Choice.{pick}
-use Rattle.field.specs.Answer.{Outcome, given, refused, numberOf, unless}
+use Rattle.field.specs.Answer.{Outcome, given, refused, codeOf, unless, before}
 use Rattle.headers.specs.Rand.{random}
 use Rattle.headers.specs.Degree.{degree}
-use Rattle.headers.specs.Row.{obeys, p1Of}
+use Rattle.headers.specs.Row.{verified, p1Of}
 use Rattle.headers.specs.declared.row.Row.{Row}
 use Rattle.headers.specs.declared.tuple.Tuple.{Tuple}
 use Rattle.headers.specs.declared.tuple.Generated.{Generated}
@@ -63,8 +63,8 @@ pub record Ready (v : List ℕ) (j w p1 : ℕ) : Type 0 where
 
 -- what the generator answers
 abbrev pub tupleAnswer : Row → List ℕ → ℕ → Outcome Tuple
-tupleAnswer r v x = unless (not (obeys r)) 4 (unless (not (eqb (length v) 1024)) 5 (given (tupleOf v (r .j) (r .w) (p1Of r) x)))
+tupleAnswer r v x = before (verified r) (unless (not (eqb (length v) 1024)) 5 (given (tupleOf v (r .j) (r .w) (p1Of r) x)))
 
 abbrev pub tupleOutcome : Generated → Outcome Tuple
 tupleOutcome (Value t) = given t
-tupleOutcome (Refused why) = refused (numberOf why)
+tupleOutcome (Refused why) = refused (codeOf why)

@@ -3,6 +3,7 @@ ghost use mathlib.Core.Path.{_≡_};
 ghost use Rattle.headers.specs.Shift.{isiAnswer, isiOutcome};
 use crate::beneath::row;
 use crate::row::Row;
+use field::refusal::Answer;
 use field::refusal::Refusal;
 
 pub mod beneath;
@@ -20,8 +21,9 @@ pub enum Shifted {
 pub fn isi_of(r: Row, k: u32, e: Esi) -> Shifted
     ensures { λ i. ⌜ isiOutcome i ≡ isiAnswer r k (e .0) ⌝ }
 {
-    if !row::obeys(r) {
-        return Shifted::Refused(Refusal::BadRow);
+    let fine = row::verify(r);
+    if let Answer::Refused(why) = fine {
+        return Shifted::Refused(why);
     }
     if e.0 >= 16777216 {
         return Shifted::Refused(Refusal::BadCount);

@@ -27,18 +27,18 @@ pub enum Checked {
 pub fn check(kp: u32, j: u32, s: u32, h: u32, w: u32) -> Checked
     ensures { λ c. ⌜ rowOutcome c ≡ rowChecked kp j s h w ⌝ }
 {
-    let Derivation::Numbers { l, p, b, p1 } = row::derive(kp, j, s, h, w) else {
-        return Checked::Refused(Refusal::BadRow);
-    };
-    Checked::Value(Row {
-        kp,
-        j,
-        s,
-        h,
-        w,
-        l,
-        p,
-        b,
-        p1,
-    })
+    match row::derive(kp, j, s, h, w) {
+        Derivation::Numbers { l, p, b, p1 } => Checked::Value(Row {
+            kp,
+            j,
+            s,
+            h,
+            w,
+            l,
+            p,
+            b,
+            p1,
+        }),
+        Derivation::Broken(part) => Checked::Refused(Refusal::BadRow(part)),
+    }
 }

@@ -6,6 +6,7 @@ use crate::beneath;
 use crate::beneath::row;
 use crate::ids::Isi;
 use crate::row::Row;
+use field::refusal::Answer;
 use field::refusal::Refusal;
 
 pub struct Tuple {
@@ -25,8 +26,9 @@ pub enum Generated {
 pub fn intermediate_tuple(r: Row, tables: &[u32], x: Isi) -> Generated
     ensures { λ t. ⌜ tupleOutcome t ≡ tupleAnswer r (now (tables .entry)) (x .0) ⌝ }
 {
-    if !row::obeys(r) {
-        return Generated::Refused(Refusal::BadRow);
+    let fine = row::verify(r);
+    if let Answer::Refused(why) = fine {
+        return Generated::Refused(why);
     }
     if tables.len() != 1024 {
         return Generated::Refused(Refusal::BadTables);

@@ -5,7 +5,7 @@ use mathlib.Core.List.{List}
 use Prim.Native.Nat.{ℕ, _*_}
 use Rattle.field.specs.Answer.{done}
 use Rattle.field.specs.Runs.{added, fused, scaled}
-use Rattle.field.proofs.Answers.{named-number, answerOf, answer-only}
+use Rattle.field.proofs.Answers.{named-code, answerOf, answer-only}
 use Rattle.field.proofs.Refusals.{Settled, settled-written, done-only}
 use Rattle.slab.specs.Slab.{slabOutcome, rangeOutcome, rangeOf, start, symbol, Zeroed, SymbolsAdded, SymbolScaled, SymbolsFused}
 use Rattle.slab.specs.declared.symbol_slab.SymbolSlab.{SymbolSlab}
@@ -16,14 +16,14 @@ use Rattle.slab.specs.declared.symbol_slab.Range.the-variants as Ranges
 
 slab-back : (a : Made) → answerOf Mades.Slab Mades.Refused (slabOutcome a) ≡ a
 slab-back (Mades.Slab s) = refl
-slab-back (Mades.Refused w) = ap Mades.Refused (named-number w)
+slab-back (Mades.Refused w) = ap Mades.Refused (named-code w)
 
 pub slab-only : (a b : Made) → slabOutcome a ≡ slabOutcome b → a ≡ b
 slab-only = answer-only slabOutcome Mades.Slab Mades.Refused slab-back
 
 range-back : (a : Range) → answerOf (λ x. Ranges.Bytes (x .0) (x .1)) Ranges.Refused (rangeOutcome a) ≡ a
 range-back (Ranges.Bytes s t) = refl
-range-back (Ranges.Refused w) = ap Ranges.Refused (named-number w)
+range-back (Ranges.Refused w) = ap Ranges.Refused (named-code w)
 
 pub range-only : (a b : Range) → rangeOutcome a ≡ rangeOutcome b → a ≡ b
 range-only = answer-only rangeOutcome (λ x. Ranges.Bytes (x .0) (x .1)) Ranges.Refused range-back

@@ -6,7 +6,7 @@ use mathlib.Core.List.{List}
 use Prim.Native.Nat.{ℕ, _+_, _*_, _<_}
 use lib.Dec.{eqb, ltb, leb}
 use lib.ListN.{length, getD}
-use Rattle.field.specs.Answer.{Outcome, given, refused, unless, before, Does, done, numberOf}
+use Rattle.field.specs.Answer.{Outcome, given, refused, unless, before, Does, done, codeOf}
 use Rattle.field.specs.Choice.{pick, both}
 use Rattle.field.specs.Runs.{Written, part, added, fused, scaled}
 use Rattle.field.specs.declared.refusal.Answer.{Answer}
@@ -60,11 +60,11 @@ rangeOf len count t order i = before (addressable len count t order i) (given (p
 -- what the answers stand for
 abbrev pub rangeOutcome : Range → Outcome (ℕ × ℕ)
 rangeOutcome (Ranges.Bytes start end) = given (start, end)
-rangeOutcome (Ranges.Refused why) = refused (numberOf why)
+rangeOutcome (Ranges.Refused why) = refused (codeOf why)
 
 abbrev pub slabOutcome : Made → Outcome SymbolSlab
 slabOutcome (Mades.Slab slab) = given slab
-slabOutcome (Mades.Refused why) = refused (numberOf why)
+slabOutcome (Mades.Refused why) = refused (codeOf why)
 
 -- The calls. xs is the store at entry and ys at exit, r the answer.
 

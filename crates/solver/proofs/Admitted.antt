@@ -12,9 +12,9 @@ use lib.ListN.{length, getD}
 use Rattle.field.specs.Answer.{given}
 use Rattle.field.specs.Choice.{pick}
 use Rattle.field.proofs.Refusals.{passed}
-use Rattle.headers.specs.Row.{obeys, lOf}
+use Rattle.headers.specs.Row.{lOf}
 use Rattle.headers.specs.declared.row.Row.{Row}
-use Rattle.headers.proofs.Accepted.{obeys-tells}
+use Rattle.headers.proofs.Rules.{passed-row}
 use Rattle.solver.specs.Display.{anyLarge}
 use Rattle.solver.specs.System.{Admits, admitted, equations}
 use Rattle.solver.proofs.Displays.{large-at}
@@ -33,7 +33,7 @@ module _ (r : Row) (v : List ℕ) (k t : ℕ) (es xs a d o : List ℕ) where
   -- what each test of a call that is not refused has made sure of
   pub admits : admitted r v k t es xs a d o ≡ given tt → Admits r v k t es xs a d o
   admits e =
-      let p1 = passed (not (obeys r)) 4 _ tt e in
+      let p1 = passed-row _ tt e in
       let p2 = passed (not (eqb (length v) 1024)) 5 _ tt (p1 .1) in
       let p3 = passed (anyLarge es) 9 _ tt (p2 .1) in
       let p4 = passed (ltb k 1) 9 _ tt (p3 .1) in
@@ -47,7 +47,7 @@ module _ (r : Row) (v : List ℕ) (k t : ℕ) (es xs a d o : List ℕ) where
       record {
         fillable = record {
           sendable = record {
-            rules = obeys-tells r .passes (not-false (obeys r) (p1 .0));
+            rules = p1 .0;
             tables = eqb-true (length v) 1024 (not-false (eqb (length v) 1024) (p2 .0));
             k-low = ltb-false k 1 (p4 .0);
             k-high = ltb-false (r .kp) k (p5 .0);

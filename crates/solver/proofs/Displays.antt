@@ -12,7 +12,7 @@ use lib.ListN.{length, getD}
 use Rattle.field.specs.Choice.{pick}
 use Rattle.field.specs.Answer.{given}
 use Rattle.field.proofs.Parts.{block-ends}
-use Rattle.field.proofs.Answers.{given-only, named-number, answerOf, answer-only}
+use Rattle.field.proofs.Answers.{given-only, named-code, answerOf, answer-only}
 use Rattle.field.proofs.Refusals.{passed, passed-before}
 use Rattle.solver.specs.Display.{anyLarge, standing, answerable, Place, arrived, rebuilt, whereof, located, placeOutcome}
 use Rattle.solver.specs.declared.display.Shown.{Shown}
@@ -54,7 +54,7 @@ shownAt (rebuilt s) = Showns.Rebuilt s
 located-back : (a : Shown) → answerOf shownAt Showns.Refused (placeOutcome a) ≡ a
 located-back (Showns.Arrived s) = refl
 located-back (Showns.Rebuilt s) = refl
-located-back (Showns.Refused w) = ap Showns.Refused (named-number w)
+located-back (Showns.Refused w) = ap Showns.Refused (named-code w)
 
 -- the answer of `locate` is settled
 pub located-only : (p q : Shown) → placeOutcome p ≡ placeOutcome q → p ≡ q

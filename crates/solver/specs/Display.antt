@@ -6,7 +6,7 @@ use Prim.Native.Nat.{ℕ, suc, _+_, _*_}
 use lib.Dec.{eqb, leb, ltb}
 use lib.ListN.{length, take, drop}
 use Rattle.field.specs.Choice.{pick}
-use Rattle.field.specs.Answer.{Outcome, given, refused, unless, before, numberOf}
+use Rattle.field.specs.Answer.{Outcome, given, refused, unless, before, codeOf}
 use Rattle.solver.specs.declared.display.Shown.{Shown}
 use Rattle.solver.specs.declared.display.Shown.the-variants as Showns
 
@@ -41,7 +41,7 @@ located k t es came built i = before (answerable (length es) (anyLarge es) came 
 abbrev pub placeOutcome : Shown → Outcome Place
 placeOutcome (Showns.Arrived s) = given (arrived s)
 placeOutcome (Showns.Rebuilt s) = given (rebuilt s)
-placeOutcome (Showns.Refused why) = refused (numberOf why)
+placeOutcome (Showns.Refused why) = refused (codeOf why)
 
 -- the bytes themselves, or the empty part
 abbrev pub shown : ℕ → Outcome Place → List ℕ → List ℕ → List ℕ

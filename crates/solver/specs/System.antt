@@ -6,9 +6,9 @@ use mathlib.Core.List.{List}
 use Prim.Native.Nat.{ℕ, _+_, _-_, _*_, _≤_, _<_}
 use lib.Dec.{eqb, ltb}
 use lib.ListN.{length, getD}
-use Rattle.field.specs.Answer.{Outcome, given, refused, unless, numberOf}
+use Rattle.field.specs.Answer.{Outcome, given, refused, unless, codeOf, before}
 use Rattle.field.specs.Runs.{Written}
-use Rattle.headers.specs.Row.{obeys, lOf}
+use Rattle.headers.specs.Row.{verified, lOf}
 use Rattle.headers.specs.Shift.{shifted}
 use Rattle.headers.specs.declared.row.Row.{Row}
 use Rattle.constraints.specs.Encoding.{encOf}
@@ -122,7 +122,7 @@ roomToSolve r k t n a d o =
 -- and stores of a, d and o octets
 abbrev pub solvable : Row → ℕ → ℕ → ℕ → ℕ → Bool → ℕ → ℕ → ℕ → ℕ → Outcome (Unit {0})
 solvable r tables k t n large came a d o =
-    unless (not (obeys r)) 4 (unless (not (eqb tables 1024)) 5
+    before (verified r) (unless (not (eqb tables 1024)) 5
     (unless large 9 (unless (ltb k 1) 9 (unless (ltb (r .kp) k) 9 (unless (ltb 65535 n) 9
     (unless (eqb t 0) 10 (unless (not (eqb came (n * t))) 10 (roomToSolve r k t n a d o))))))))
 
@@ -139,4 +139,4 @@ Solves r v k t es xs a d o a₁ d₁ o₁ (Given verdict) =
     × Written (λ _. 0) a a₁ 0 (equations r k (length es) * lOf r)
     × Written (λ _. 0) d d₁ 0 (equations r k (length es) * t)
 Solves r v k t es xs a d o a₁ d₁ o₁ (Refused why) =
-    (admitted r v k t es xs a d o ≡ refused (numberOf why)) × (a₁ ≡ a) × (d₁ ≡ d) × (o₁ ≡ o)
+    (admitted r v k t es xs a d o ≡ refused (codeOf why)) × (a₁ ≡ a) × (d₁ ≡ d) × (o₁ ≡ o)

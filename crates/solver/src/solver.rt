@@ -53,9 +53,10 @@ fn may(
 ) -> Answer
     ensures { λ a. ⌜ done a ≡ solvable r tables k t n large came rows values out ⌝ }
 {
-    if !row::obeys(r) {
-        return Answer::Refused(Refusal::BadRow);
-    }
+    let fine = row::verify(r);
+    let Answer::Done = fine else {
+        return fine;
+    };
     if tables != 1024 {
         return Answer::Refused(Refusal::BadTables);
     }

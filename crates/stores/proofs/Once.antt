@@ -7,7 +7,7 @@ use lib.ListN.{length, getD}
 use Rattle.field.specs.Answer.{done, octetOutcome}
 use Rattle.field.specs.Runs.{added, part}
 use Rattle.field.specs.declared.octet.Answer.{Answer}
-use Rattle.field.proofs.Answers.{named-number, answerOf, answer-only, outcome-only}
+use Rattle.field.proofs.Answers.{named-code, answerOf, answer-only, outcome-only}
 use Rattle.field.proofs.Refusals.{Settled, settled, settled-written, done-only}
 use Rattle.stores.specs.Bits.{withBit, crossedFrom}
 use Rattle.stores.specs.Rows.{Exchanged, packedTo}
@@ -22,14 +22,14 @@ use Rattle.stores.proofs.Rows.{exchanged-once}
 
 made-back : (a : Made) → answerOf Mades.Matrix Mades.Refused (matrixOutcome a) ≡ a
 made-back (Mades.Matrix m) = refl
-made-back (Mades.Refused w) = ap Mades.Refused (named-number w)
+made-back (Mades.Refused w) = ap Mades.Refused (named-code w)
 
 pub made-only : (p q : Made) → matrixOutcome p ≡ matrixOutcome q → p ≡ q
 made-only = answer-only matrixOutcome Mades.Matrix Mades.Refused made-back
 
 counted-back : (a : Count) → answerOf Counts.Ones Counts.Refused (counted a) ≡ a
 counted-back (Counts.Ones n) = refl
-counted-back (Counts.Refused w) = ap Counts.Refused (named-number w)
+counted-back (Counts.Refused w) = ap Counts.Refused (named-code w)
 
 pub counted-only : (p q : Count) → counted p ≡ counted q → p ≡ q
 counted-only = answer-only counted Counts.Ones Counts.Refused counted-back

@@ -5,7 +5,7 @@ use mathlib.Core.List.{List}
 use Prim.Native.Nat.{ℕ, _+_, _-_, _*_, _/_, _%_}
 use lib.Dec.{eqb, ltb, leb}
 use lib.ListN.{length, getD}
-use Rattle.field.specs.Answer.{Outcome, given, refused, unless, before, Does, done, numberOf}
+use Rattle.field.specs.Answer.{Outcome, given, refused, unless, before, Does, done, codeOf}
 use Rattle.field.specs.Choice.{pick}
 use Rattle.field.specs.Ones.{ones}
 use Rattle.field.specs.Runs.{Written, part, added}
@@ -89,11 +89,11 @@ shrinkable len m new =
 -- what the answers stand for
 abbrev pub matrixOutcome : Made → Outcome DenseBinaryMatrix
 matrixOutcome (Mades.Matrix m) = given m
-matrixOutcome (Mades.Refused why) = refused (numberOf why)
+matrixOutcome (Mades.Refused why) = refused (codeOf why)
 
 abbrev pub counted : Count → Outcome ℕ
 counted (Counts.Ones n) = given n
-counted (Counts.Refused why) = refused (numberOf why)
+counted (Counts.Refused why) = refused (codeOf why)
 
 -- The calls. xs is the store at entry and ys at exit, r the answer.
 

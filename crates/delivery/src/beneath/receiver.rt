@@ -12,6 +12,7 @@ use crate::beneath::screen;
 use crate::beneath::screen::Screened;
 use crate::beneath::screen::Stop;
 use elimination::verdict::Verdict;
+use field::refusal::Part;
 use field::refusal::Refusal;
 use headers::beneath::util;
 use headers::row::Checked;
@@ -103,9 +104,9 @@ fn hear(bytes: &[u8], out: &mut [u8]) -> Received
     ensures { λ o. ⌜ Heard (now (bytes .entry)) (now (out .entry)) (now (out .exit)) o ⌝ }
 {
     let o = layout::info(bytes);
-    // The screen has seen that the check makes a record.
+    // The screen has seen that the check makes a record, so this refusal, of any part, is never given.
     let Checked::Value(r) = layout::row(bytes) else {
-        return Received::Stopped(Stop::Refused(Refusal::BadRow));
+        return Received::Stopped(Stop::Refused(Refusal::BadRow(Part::Derived)));
     };
     let f = o.transfer_length as usize;
     let t = o.symbol_size;

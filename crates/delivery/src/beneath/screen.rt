@@ -109,14 +109,16 @@ fn screen_rest(bytes: &[u8], k: u64, t: u16) -> Screened
     requires { ⌜ 32 ≤ length (now bytes) ⌝ }
     ensures { λ a. ⌜ screened a ≡ restScreen (now (bytes .entry)) k t ⌝ }
 {
-    let Checked::Value(r) = layout::row(bytes) else {
-        return Screened::Stopped(Stop::Refused(Refusal::BadRow));
-    };
-    let fine = screen_row(r, k, t);
-    let Screened::Passed = fine else {
-        return fine;
-    };
-    screen_packets(bytes, r, k as u32, t as usize)
+    match layout::row(bytes) {
+        Checked::Value(r) => {
+            let fine = screen_row(r, k, t);
+            let Screened::Passed = fine else {
+                return fine;
+            };
+            screen_packets(bytes, r, k as u32, t as usize)
+        }
+        Checked::Refused(why) => Screened::Stopped(Stop::Refused(why)),
+    }
 }
 
 pub fn screen(bytes: &[u8]) -> Screened

@@ -5,7 +5,7 @@ use native.Mathlib.Omega.{arith}
 use borrow.Author.Tests.{lt-ltb, le-ltb, eq-eqb, ne-eqb}
 use borrow.Author.Needs.{needs}
 use lib.ListN.{length}
-use Rattle.headers.proofs.Accepted.{obeyed}
+use Rattle.headers.proofs.Rules.{obeyed}
 use Rattle.builders.proofs.Limits.{fits}
 use Rattle.builders.proofs.constraint_matrix.build.Statement.{statement}
 use Rattle.builders.proofs.constraint_matrix.build.Tie as tie

@@ -3,21 +3,30 @@
 use mathlib.Core.Path.{refl}
 use native.Mathlib.Omega.{arith}
 use borrow.Author.Needs.{needs}
+use Rattle.field.proofs.Refusals.{stopped, told}
 use Rattle.headers.specs.Row.{Obeys}
 use Rattle.headers.proofs.Tests.{granted, denied}
-use Rattle.headers.proofs.Accepted.{broken}
+use Rattle.headers.proofs.Rules.{obeying}
 use Rattle.builders.proofs.constraint_matrix.generate_constraint_matrix.Statement.{statement}
 use Rattle.builders.proofs.constraint_matrix.generate_constraint_matrix.Tie as tie
 
-obeys-requires : tie.Need-obeys-requires
-obeys-requires c κs = search needs
+verify-requires : tie.Need-verify-requires
+verify-requires c κs = search needs
+
+enum-known-fine : tie.Need-enum-known-fine
+enum-known-fine c = search needs
 
 returns : tie.Need-returns
-returns c = record { answer = simp (broken (denied (c .before .obeys .result) (c .if1 .taken) (c .before .obeys .ensures))); memory = refl }
+returns c =
+    let v = c .before .before .before .verify in
+    record { answer = stopped (v .result) (v .ensures) _ (c .before .fine .given .0 .0) (c .before .fine .given .1); memory = refl }
+
+enum-told : tie.Need-enum-told
+enum-told c = search needs
 
 -- past the test the rules hold
-fine : (c : tie.Else1) → Obeys (c .before .before .before .before .before .args .r)
-fine c = granted (c .before .obeys .result) (c .if1 .left) (c .before .obeys .ensures)
+fine : (c : tie.After-enum-told) → Obeys (c .before .before .before .before .before .before .args .r)
+fine c = let v = c .before .before .verify in obeying (told (v .result) (v .ensures) (c .enum-told .given .1))
 
 build-requires : tie.Need-build-requires
 build-requires c κs = (fine (c .before), omega arith)
@@ -30,4 +39,4 @@ returns-2 c = c .before .before .build .ensures
 
 pub generate-constraint-matrix-spec : {M : Type 1} → statement M
 generate-constraint-matrix-spec =
-    tie.close (tie.spec obeys-requires returns build-requires same-length returns-2)
+    tie.close (tie.spec verify-requires enum-known-fine returns enum-told build-requires same-length returns-2)

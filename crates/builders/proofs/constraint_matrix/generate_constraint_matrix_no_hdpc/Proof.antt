@@ -3,21 +3,30 @@
 use mathlib.Core.Path.{refl}
 use native.Mathlib.Omega.{arith}
 use borrow.Author.Needs.{needs}
+use Rattle.field.proofs.Refusals.{stopped, told}
 use Rattle.headers.specs.Row.{Obeys}
 use Rattle.headers.proofs.Tests.{granted, denied}
-use Rattle.headers.proofs.Accepted.{broken}
+use Rattle.headers.proofs.Rules.{obeying}
 use Rattle.builders.proofs.constraint_matrix.generate_constraint_matrix_no_hdpc.Statement.{statement}
 use Rattle.builders.proofs.constraint_matrix.generate_constraint_matrix_no_hdpc.Tie as tie
 
-obeys-requires : tie.Need-obeys-requires
-obeys-requires c κs = search needs
+verify-requires : tie.Need-verify-requires
+verify-requires c κs = search needs
+
+enum-known-fine : tie.Need-enum-known-fine
+enum-known-fine c = search needs
 
 returns : tie.Need-returns
-returns c = record { answer = simp (broken (denied (c .before .obeys .result) (c .if1 .taken) (c .before .obeys .ensures))); memory = refl }
+returns c =
+    let v = c .before .before .before .verify in
+    record { answer = stopped (v .result) (v .ensures) _ (c .before .fine .given .0 .0) (c .before .fine .given .1); memory = refl }
+
+enum-told : tie.Need-enum-told
+enum-told c = search needs
 
 -- past the test the rules hold
-fine : (c : tie.Else1) → Obeys (c .before .before .before .before .before .args .r)
-fine c = granted (c .before .obeys .result) (c .if1 .left) (c .before .obeys .ensures)
+fine : (c : tie.After-enum-told) → Obeys (c .before .before .before .before .before .before .args .r)
+fine c = let v = c .before .before .verify in obeying (told (v .result) (v .ensures) (c .enum-told .given .1))
 
 add-build : tie.Need-add-build
 add-build c = let o = fine (c .before .before) in omega (arith, o .l-high)
@@ -33,4 +42,4 @@ returns-2 c = c .before .before .build .ensures
 
 pub generate-constraint-matrix-no-hdpc-spec : {M : Type 1} → statement M
 generate-constraint-matrix-no-hdpc-spec =
-    tie.close (tie.spec obeys-requires returns add-build build-requires same-length returns-2)
+    tie.close (tie.spec verify-requires enum-known-fine returns enum-told add-build build-requires same-length returns-2)

@@ -37,8 +37,8 @@ hand-requires-2 c κs = search needs
 enum-known-why : tie.Need-enum-known-why
 enum-known-why c = search needs
 
-number-requires : tie.Need-number-requires
-number-requires c κs = search needs
+code-requires : tie.Need-code-requires
+code-requires c κs = search needs
 
 same-length : tie.Need-same-length
 same-length c = search needs
@@ -62,7 +62,7 @@ returns-3 : tie.Need-returns-3
 returns-3 c =
     let at = c .before .before .before .before in
     let a = at .before .before .before .before .before .before .args in
-    called-place (a .count) (a .t) (now (a .esis)) (length (now (a .arrivals))) (length (now (a .rebuilt))) (a .i) _ (refused _) (at .before .measured .ensures) (sym (ap placeOutcome (c .before .before .why .given .1)) ∙ at .locate .ensures) (record { answer = c .number .ensures; memory = refl })
+    called-place (a .count) (a .t) (now (a .esis)) (length (now (a .arrivals))) (length (now (a .rebuilt))) (a .i) _ (refused _) (at .before .measured .ensures) (sym (ap placeOutcome (c .before .before .why .given .1)) ∙ at .locate .ensures) (record { answer = c .code .ensures; memory = refl })
 
 pub spoonripple-display-spec : {M : Type 1} → statement M
 spoonripple-display-spec =
@@ -77,7 +77,7 @@ spoonripple-display-spec =
     slice-aggregate-hand-2
     hand-requires-2
     enum-known-why
-    number-requires
+    code-requires
     same-length
     returns
     same-length-2

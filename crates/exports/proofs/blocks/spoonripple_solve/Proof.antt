@@ -44,8 +44,8 @@ tell-requires c κs = search needs
 enum-known-why : tie.Need-enum-known-why
 enum-known-why c = search needs
 
-number-requires : tie.Need-number-requires
-number-requires c κs = search needs
+code-requires : tie.Need-code-requires
+code-requires c κs = search needs
 
 same-length-4 : tie.Need-same-length-4
 same-length-4 c = search needs
@@ -87,7 +87,7 @@ returns-3 c =
     let z = at .solve .last .1 .1 .1 .1 .1 .1 in
     told-refused (row (a .k) (a .j) (a .s) (a .h) (a .w) (a .l) (a .p) (a .b) (a .p1)) (now (a .tables)) (a .count) (a .t) (now (a .esis)) (now (a .symbols))
     (now (a .rows)) (now (a .values)) (now (a .out)) (now (a .shortfall))
-    (z .0) (z .1 .0) (z .1 .1 .0) _ _ u (c .before .before .why .given .1) (c .number .ensures)
+    (z .0) (z .1 .0) (z .1 .1 .0) _ _ u (c .before .before .why .given .1) (c .code .ensures)
 
 pub spoonripple-solve-spec : {M : Type 1} → statement M
 spoonripple-solve-spec =
@@ -103,7 +103,7 @@ spoonripple-solve-spec =
     enum-known-v
     tell-requires
     enum-known-why
-    number-requires
+    code-requires
     same-length-4
     same-length-5
     same-length-6

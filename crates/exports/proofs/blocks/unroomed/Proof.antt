@@ -24,8 +24,8 @@ enum-told c = search needs
 enum-known-why : tie.Need-enum-known-why
 enum-known-why c = search needs
 
-number-requires : tie.Need-number-requires
-number-requires c κs = search needs
+code-requires : tie.Need-code-requires
+code-requires c κs = search needs
 
 same-length : tie.Need-same-length
 same-length c = search needs
@@ -55,7 +55,7 @@ returns-2 : tie.Need-returns-2
 returns-2 c =
     let at = c .before .before .before .before .before .before .before .before .before .before in
     let a = at .before .before .before .before .before .before .before .before .before .before .args in
-    rows-refused (a .r) (now (a .tables)) (a .count) (a .t) (now (a .esis)) (now (a .symbols)) (now (a .rows)) (now (a .values)) (now (a .out)) (at .solve .last .1 .1 .1 .1 .1 .1 .0) (at .solve .last .1 .1 .1 .1 .1 .1 .1 .0) (at .solve .last .1 .1 .1 .1 .1 .1 .1 .1 .0) _ _ (at .solve .ensures) (c .before .before .why .given .1) (c .number .ensures)
+    rows-refused (a .r) (now (a .tables)) (a .count) (a .t) (now (a .esis)) (now (a .symbols)) (now (a .rows)) (now (a .values)) (now (a .out)) (at .solve .last .1 .1 .1 .1 .1 .1 .0) (at .solve .last .1 .1 .1 .1 .1 .1 .1 .0) (at .solve .last .1 .1 .1 .1 .1 .1 .1 .1 .0) _ _ (at .solve .ensures) (c .before .before .why .given .1) (c .code .ensures)
 
 pub unroomed-spec : {M : Type 1} → statement M
 unroomed-spec =
@@ -67,7 +67,7 @@ unroomed-spec =
     solve-requires
     enum-told
     enum-known-why
-    number-requires
+    code-requires
     same-length
     same-length-2
     same-length-3

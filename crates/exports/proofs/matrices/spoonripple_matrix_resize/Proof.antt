@@ -16,7 +16,7 @@ same-length c = search needs
 returns : tie.Need-returns
 returns c =
     let w = c .before .before .before .resize in
-    record { below = w .result; meets = w .ensures; number = c .told-matrix .ensures }
+    record { below = w .result; meets = w .ensures; result = c .told-matrix .ensures }
 
 pub spoonripple-matrix-resize-spec : {M : Type 1} → statement M
 spoonripple-matrix-resize-spec =

@@ -35,8 +35,8 @@ hand-requires c κs = search needs
 enum-known-why : tie.Need-enum-known-why
 enum-known-why c = search needs
 
-number-requires : tie.Need-number-requires
-number-requires c κs = search needs
+code-requires : tie.Need-code-requires
+code-requires c κs = search needs
 
 same-length : tie.Need-same-length
 same-length c = search needs
@@ -50,7 +50,7 @@ returns-2 : tie.Need-returns-2
 returns-2 c =
     let found = c .before .before in
     called-as (thenRoomed _) (sym (ap partitionOutcome (found .why .given .1)) ∙ found .before .before .partition .ensures)
-    (record { answer = c .number .ensures; memory = refl })
+    (record { answer = c .code .ensures; memory = refl })
 
 pub spoonripple-partition-spec : {M : Type 1} → statement M
 spoonripple-partition-spec =
@@ -65,7 +65,7 @@ spoonripple-partition-spec =
     slice-aggregate-hand
     hand-requires
     enum-known-why
-    number-requires
+    code-requires
     same-length
     returns
     returns-2)

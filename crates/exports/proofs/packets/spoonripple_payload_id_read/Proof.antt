@@ -29,8 +29,8 @@ hand-requires c κs = search needs
 enum-known-why : tie.Need-enum-known-why
 enum-known-why c = search needs
 
-number-requires : tie.Need-number-requires
-number-requires c κs = search needs
+code-requires : tie.Need-code-requires
+code-requires c κs = search needs
 
 same-length : tie.Need-same-length
 same-length c = search needs
@@ -43,7 +43,7 @@ returns c =
 returns-2 : tie.Need-returns-2
 returns-2 c =
     let found = c .before .before in
-    called-refused idNumbers (sym (ap idOutcome (found .why .given .1)) ∙ found .before .before .deserialize .ensures) (c .number .ensures) refl
+    called-refused idNumbers (sym (ap idOutcome (found .why .given .1)) ∙ found .before .before .deserialize .ensures) (c .code .ensures) refl
 
 pub spoonripple-payload-id-read-spec : {M : Type 1} → statement M
 spoonripple-payload-id-read-spec =
@@ -56,7 +56,7 @@ spoonripple-payload-id-read-spec =
     slice-aggregate-hand
     hand-requires
     enum-known-why
-    number-requires
+    code-requires
     same-length
     returns
     returns-2)

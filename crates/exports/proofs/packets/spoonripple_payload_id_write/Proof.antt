@@ -16,7 +16,7 @@ same-length c = search needs
 returns : tie.Need-returns
 returns c =
     let w = c .before .before .before .serialize in
-    record { below = w .result; meets = w .ensures; number = c .told .ensures }
+    record { below = w .result; meets = w .ensures; result = c .told .ensures }
 
 pub spoonripple-payload-id-write-spec : {M : Type 1} → statement M
 spoonripple-payload-id-write-spec =

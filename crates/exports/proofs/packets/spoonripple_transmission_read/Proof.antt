@@ -35,8 +35,8 @@ hand-requires c κs = search needs
 enum-known-why : tie.Need-enum-known-why
 enum-known-why c = search needs
 
-number-requires : tie.Need-number-requires
-number-requires c κs = search needs
+code-requires : tie.Need-code-requires
+code-requires c κs = search needs
 
 same-length : tie.Need-same-length
 same-length c = search needs
@@ -49,7 +49,7 @@ returns c =
 returns-2 : tie.Need-returns-2
 returns-2 c =
     let found = c .before .before in
-    called-refused infoNumbers (sym (ap infoOutcome (found .why .given .1)) ∙ found .before .before .deserialize .ensures) (c .number .ensures) refl
+    called-refused infoNumbers (sym (ap infoOutcome (found .why .given .1)) ∙ found .before .before .deserialize .ensures) (c .code .ensures) refl
 
 pub spoonripple-transmission-read-spec : {M : Type 1} → statement M
 spoonripple-transmission-read-spec =
@@ -64,7 +64,7 @@ spoonripple-transmission-read-spec =
     slice-aggregate-hand
     hand-requires
     enum-known-why
-    number-requires
+    code-requires
     same-length
     returns
     returns-2)

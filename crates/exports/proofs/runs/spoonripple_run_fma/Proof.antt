@@ -9,7 +9,7 @@ use Rattle.exports.proofs.runs.spoonripple_run_fma.Statement.{statement
 use Rattle.exports.proofs.runs.spoonripple_run_fma.Tie as tie
 
 returns : tie.Need-returns
-returns c = record { below = Refused WrongLength; meets = rw (ne-eqb _ _ (c .if1 .taken)) (refl, refl); number = refl }
+returns c = record { below = Refused WrongLength; meets = rw (ne-eqb _ _ (c .if1 .taken)) (refl, refl); result = refl }
 
 fma-requires : tie.Need-fma-requires
 fma-requires c κs = search needs
@@ -18,7 +18,7 @@ same-length : tie.Need-same-length
 same-length c = search needs
 
 returns-2 : tie.Need-returns-2
-returns-2 c = record { below = Done; meets = rw (eq-eqb _ _ (c .before .before .before .before .if1 .left)) (refl, c .before .before .fma .ensures); number = refl }
+returns-2 c = record { below = Done; meets = rw (eq-eqb _ _ (c .before .before .before .before .if1 .left)) (refl, c .before .before .fma .ensures); result = refl }
 
 pub spoonripple-run-fma-spec : {M : Type 1} → statement M
 spoonripple-run-fma-spec = tie.close (tie.spec returns fma-requires same-length returns-2)

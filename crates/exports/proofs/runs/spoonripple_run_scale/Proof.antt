@@ -13,7 +13,7 @@ same-length : tie.Need-same-length
 same-length c = search needs
 
 returns : tie.Need-returns
-returns c = record { below = Done; meets = (refl, c .before .before .scale .ensures); number = refl }
+returns c = record { below = Done; meets = (refl, c .before .before .scale .ensures); result = refl }
 
 pub spoonripple-run-scale-spec : {M : Type 1} → statement M
 spoonripple-run-scale-spec = tie.close (tie.spec scale-requires same-length returns)

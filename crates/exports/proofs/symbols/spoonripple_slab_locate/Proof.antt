@@ -30,8 +30,8 @@ hand-requires c κs = search needs
 enum-known-why : tie.Need-enum-known-why
 enum-known-why c = search needs
 
-number-requires : tie.Need-number-requires
-number-requires c κs = search needs
+code-requires : tie.Need-code-requires
+code-requires c κs = search needs
 
 same-length : tie.Need-same-length
 same-length c = search needs
@@ -47,7 +47,7 @@ returns-4 c =
     let found = c .before .before in
     called-past 2 (le-ltb 131070 _ (found .before .before .before .before .if1 .left))
     (called-roomed _ 2 (found .before .before .before .if2 .left)
-    (called-late bounds (sym (ap rangeOutcome (found .why .given .1)) ∙ found .before .before .get .ensures) (c .number .ensures) refl))
+    (called-late bounds (sym (ap rangeOutcome (found .why .given .1)) ∙ found .before .before .get .ensures) (c .code .ensures) refl))
 
 pub spoonripple-slab-locate-spec : {M : Type 1} → statement M
 spoonripple-slab-locate-spec =
@@ -60,7 +60,7 @@ spoonripple-slab-locate-spec =
     slice-aggregate-hand
     hand-requires
     enum-known-why
-    number-requires
+    code-requires
     same-length
     returns-3
     returns-4)

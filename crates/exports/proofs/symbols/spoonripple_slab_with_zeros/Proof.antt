@@ -16,7 +16,7 @@ same-length c = search needs
 returns : tie.Need-returns
 returns c =
     let w = c .before .before .before .with-zeros in
-    record { below = w .result; meets = w .ensures; number = c .told-slab .ensures }
+    record { below = w .result; meets = w .ensures; result = c .told-slab .ensures }
 
 pub spoonripple-slab-with-zeros-spec : {M : Type 1} → statement M
 spoonripple-slab-with-zeros-spec =

@@ -19,7 +19,7 @@ same-length c = search needs
 returns : tie.Need-returns
 returns c =
     let w = c .before .before .before .generate-constraint-matrix-no-hdpc in
-    record { below = w .result; meets = rw (c .before .before .before .before .before .handed-row .ensures) at (w .ensures); number = c .told-matrix .ensures }
+    record { below = w .result; meets = rw (c .before .before .before .before .before .handed-row .ensures) at (w .ensures); result = c .told-matrix .ensures }
 
 pub spoonripple-constraint-matrix-no-hdpc-spec : {M : Type 1} → statement M
 spoonripple-constraint-matrix-no-hdpc-spec =

@@ -19,7 +19,7 @@ same-length c = search needs
 returns : tie.Need-returns
 returns c =
     let w = c .before .before .before .enc-indices in
-    record { below = w .result; meets = rw (c .before .before .before .before .before .handed-row .ensures) at (w .ensures); number = c .told-number .ensures }
+    record { below = w .result; meets = rw (c .before .before .before .before .before .handed-row .ensures) at (w .ensures); result = c .told-number .ensures }
 
 pub spoonripple-enc-indices-spec : {M : Type 1} → statement M
 spoonripple-enc-indices-spec =

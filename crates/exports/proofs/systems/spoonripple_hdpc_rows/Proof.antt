@@ -19,7 +19,7 @@ same-length c = search needs
 returns : tie.Need-returns
 returns c =
     let w = c .before .before .before .generate-hdpc-rows in
-    record { below = w .result; meets = rw (c .before .before .before .before .before .handed-row .ensures) at (w .ensures); number = c .told .ensures }
+    record { below = w .result; meets = rw (c .before .before .before .before .before .handed-row .ensures) at (w .ensures); result = c .told .ensures }
 
 pub spoonripple-hdpc-rows-spec : {M : Type 1} → statement M
 spoonripple-hdpc-rows-spec =

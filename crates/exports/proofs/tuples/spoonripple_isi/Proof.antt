@@ -29,8 +29,8 @@ hand-one-requires c κs = search needs
 enum-known-why : tie.Need-enum-known-why
 enum-known-why c = search needs
 
-number-requires-2 : tie.Need-number-requires-2
-number-requires-2 c κs = search needs
+code-requires : tie.Need-code-requires
+code-requires c κs = search needs
 
 same-length : tie.Need-same-length
 same-length c = search needs
@@ -47,7 +47,7 @@ returns-2 : tie.Need-returns-2
 returns-2 c =
     let found = c .before .before in
     let given = rw (found .before .before .before .handed-row .ensures) at (found .before .before .isi-of .ensures) in
-    called-refused single (sym (ap isiOutcome (found .why .given .1)) ∙ given) (c .number2 .ensures) refl
+    called-refused single (sym (ap isiOutcome (found .why .given .1)) ∙ given) (c .code .ensures) refl
 
 pub spoonripple-isi-spec : {M : Type 1} → statement M
 spoonripple-isi-spec =
@@ -60,7 +60,7 @@ spoonripple-isi-spec =
     cast-hand-one
     hand-one-requires
     enum-known-why
-    number-requires-2
+    code-requires
     same-length
     returns
     returns-2)

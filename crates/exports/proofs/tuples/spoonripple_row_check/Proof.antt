@@ -50,8 +50,8 @@ hand-requires c κs = search needs
 enum-known-why : tie.Need-enum-known-why
 enum-known-why c = search needs
 
-number-requires : tie.Need-number-requires
-number-requires c κs = search needs
+code-requires : tie.Need-code-requires
+code-requires c κs = search needs
 
 same-length : tie.Need-same-length
 same-length c = search needs
@@ -64,7 +64,7 @@ returns c =
 returns-2 : tie.Need-returns-2
 returns-2 c =
     let found = c .before .before in
-    called-refused rowNumbers (sym (ap rowOutcome (found .why .given .1)) ∙ found .before .before .check .ensures) (c .number .ensures) refl
+    called-refused rowNumbers (sym (ap rowOutcome (found .why .given .1)) ∙ found .before .before .check .ensures) (c .code .ensures) refl
 
 pub spoonripple-row-check-spec : {M : Type 1} → statement M
 spoonripple-row-check-spec =
@@ -84,7 +84,7 @@ spoonripple-row-check-spec =
     slice-aggregate-hand
     hand-requires
     enum-known-why
-    number-requires
+    code-requires
     same-length
     returns
     returns-2)

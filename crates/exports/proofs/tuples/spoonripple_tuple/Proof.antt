@@ -47,8 +47,8 @@ hand-requires c κs = search needs
 enum-known-why : tie.Need-enum-known-why
 enum-known-why c = search needs
 
-number-requires : tie.Need-number-requires
-number-requires c κs = search needs
+code-requires : tie.Need-code-requires
+code-requires c κs = search needs
 
 same-length : tie.Need-same-length
 same-length c = search needs
@@ -66,7 +66,7 @@ returns-2 c =
     let found = c .before .before in
     let handed = found .before .before .before .before .handed-row .ensures in
     let given = rw (handed, found .before .before .before .row-number .ensures) at (found .before .before .intermediate-tuple .ensures) in
-    called-refused tupleNumbers (sym (ap tupleOutcome (found .why .given .1)) ∙ given) (c .number .ensures) refl
+    called-refused tupleNumbers (sym (ap tupleOutcome (found .why .given .1)) ∙ given) (c .code .ensures) refl
 
 pub spoonripple-tuple-spec : {M : Type 1} → statement M
 spoonripple-tuple-spec =
@@ -85,7 +85,7 @@ spoonripple-tuple-spec =
     slice-aggregate-hand
     hand-requires
     enum-known-why
-    number-requires
+    code-requires
     same-length
     returns
     returns-2)

@@ -17,8 +17,8 @@ hand-one-requires c κs = search needs
 enum-known-c-2 : tie.Need-enum-known-c-2
 enum-known-c-2 c = search needs
 
-number-requires : tie.Need-number-requires
-number-requires c κs = search needs
+code-requires : tie.Need-code-requires
+code-requires c κs = search needs
 
 same-length : tie.Need-same-length
 same-length c = search needs
@@ -27,7 +27,7 @@ returns : tie.Need-returns
 returns c = called-of single (sym (ap counted (c .before .before .before .before .before .c .given .1))) (c .before .before .hand-one .ensures)
 
 returns-2 : tie.Need-returns-2
-returns-2 c = called-refused single (sym (ap counted (c .before .before .c2 .given .1))) (c .number .ensures) refl
+returns-2 c = called-refused single (sym (ap counted (c .before .before .c2 .given .1))) (c .code .ensures) refl
 
 pub hand-count-spec : {M : Type 1} → statement M
 hand-count-spec =
@@ -36,7 +36,7 @@ hand-count-spec =
     enum-known-c
     hand-one-requires
     enum-known-c-2
-    number-requires
+    code-requires
     same-length
     returns
     returns-2)

@@ -20,8 +20,8 @@ hand-one-requires c κs = search needs
 enum-known-a-2 : tie.Need-enum-known-a-2
 enum-known-a-2 c = search needs
 
-number-requires : tie.Need-number-requires
-number-requires c κs = search needs
+code-requires : tie.Need-code-requires
+code-requires c κs = search needs
 
 same-length : tie.Need-same-length
 same-length c = search needs
@@ -30,7 +30,7 @@ returns : tie.Need-returns
 returns c = called-of single (sym (ap octetOutcome (c .before .before .before .before .before .a .given .1))) (c .before .before .hand-one .ensures)
 
 returns-2 : tie.Need-returns-2
-returns-2 c = called-refused single (sym (ap octetOutcome (c .before .before .a2 .given .1))) (c .number .ensures) refl
+returns-2 c = called-refused single (sym (ap octetOutcome (c .before .before .a2 .given .1))) (c .code .ensures) refl
 
 pub hand-octet-spec : {M : Type 1} → statement M
 hand-octet-spec =
@@ -40,7 +40,7 @@ hand-octet-spec =
     cast-hand-one
     hand-one-requires
     enum-known-a-2
-    number-requires
+    code-requires
     same-length
     returns
     returns-2)

@@ -1,6 +1,7 @@
 -- `header_text::beneath::refusal_line` meets its contract.
 -- Assumes nothing.
-use mathlib.Core.Path.{ap}
+use mathlib.Core.Path.{sym, ap, _∙_}
+use Rattle.field.proofs.Answers.{code-number}
 use Rattle.header_text.specs.Text.{refusedLine}
 use Rattle.header_text.proofs.Lines.{lined-is}
 use borrow.Author.Needs.{needs}
@@ -23,7 +24,9 @@ same-length : tie.Need-same-length
 same-length c = search needs
 
 returns : tie.Need-returns
-returns c = lined-is (c .before .before .number-line .ensures) (ap refusedLine (c .before .before .before .number .ensures))
+returns c =
+    let n = c .before .before .before in
+    lined-is (c .before .before .number-line .ensures) (ap refusedLine (n .number .ensures ∙ sym (code-number (n .before .before .args .why))))
 
 pub refusal-line-spec : {M : Type 1} → statement M
 refusal-line-spec =

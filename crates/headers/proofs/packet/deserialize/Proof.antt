@@ -3,7 +3,7 @@
 use mathlib.Core.Path.{sym, ap, _∙_}
 use native.Mathlib.Omega.{arith}
 use denote.Ref.{now}
-use Rattle.field.specs.Answer.{refused, numberOf}
+use Rattle.field.specs.Answer.{refused, codeOf}
 use Rattle.field.specs.declared.refusal.Refusal.{Refusal}
 use Rattle.headers.specs.Headers.{headOutcome, refusalOf}
 use Rattle.headers.proofs.Headers.{packet-refused, packet-given}
@@ -27,7 +27,7 @@ returns : tie.Need-returns
 returns c =
     let told = c .before .enum-told .given .1 in
     let s = now (c .before .before .before .before .before .args .bytes) in
-    ap (λ (w : Refusal). refused (numberOf w)) (c .refusal-of .ensures ∙ ap refusalOf told)
+    ap (λ (w : Refusal). refused (codeOf w)) (c .refusal-of .ensures ∙ ap refusalOf told)
     ∙ packet-refused s _ (sym (ap headOutcome told) ∙ c .before .before .before .read-head .ensures)
 
 sub-len : tie.Need-sub-len

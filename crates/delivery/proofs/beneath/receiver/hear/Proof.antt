@@ -6,6 +6,7 @@ use Prim.Native.Nat.{ℕ, _*_, _≤_, _<_}
 use native.Mathlib.Omega.{arith}
 use lib.ListN.{length, getD, take}
 use lib.Seq.{length-take-le}
+use Rattle.headers.proofs.Rules.{refused-disobeys}
 use Rattle.headers.specs.Quotient.{ceil}
 use Rattle.headers.specs.declared.transmission.ObjectTransmissionInformation.{ObjectTransmissionInformation}
 use Rattle.delivery.specs.Layout.{rowIn, kOf, tOf, esisOf, symbolsOf}
@@ -35,7 +36,7 @@ returns c =
     let a = c .before .before .before .before .before .before in
     let d = a .args .bytes .now in
     let read = c .before .before in
-    absurd (row-broken d (read .row .result) (read .row .ensures) _ (c .enum-told .given .1) (sound d (a .pre .0) .row .rules))
+    absurd (refused-disobeys (row-broken d (read .row .result) (read .row .ensures) _ (c .enum-told .given .1)) (sound d (a .pre .0) .row .rules))
 
 -- from the record back to the entry: the bytes, that they are sound, and T
 abbrev entry : tie.After-known-told → tie.Start

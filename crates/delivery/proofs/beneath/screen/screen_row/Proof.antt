@@ -4,7 +4,7 @@ use Prim.Native.Nat.{_≤_, _<_}
 use native.Mathlib.Omega.{arith}
 use borrow.Author.Tests.{lt-ltb, le-ltb}
 use Rattle.headers.specs.Row.{lOf}
-use Rattle.headers.proofs.Accepted.{obeyed}
+use Rattle.headers.proofs.Rules.{obeyed}
 use borrow.Author.Needs.{needs}
 use Rattle.delivery.proofs.beneath.screen.screen_row.Statement.{statement}
 use Rattle.delivery.proofs.beneath.screen.screen_row.Tie as tie
