@@ -26,7 +26,7 @@ same-length c = search needs
 returns : tie.Need-returns
 returns c =
     let n = c .before .before .before in
-    lined-is (c .before .before .number-line .ensures) (ap refusedLine (n .number .ensures ∙ sym (code-number (n .before .before .args .why))))
+    lined-is (c .before .before .number-line .ensures) (ap refusedLine (n .number .ensures ∙ sym (code-number (n .before .before .before .before .args .why))))
 
 pub refusal-line-spec : {M : Type 1} → statement M
 refusal-line-spec =
