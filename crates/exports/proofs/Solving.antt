@@ -6,7 +6,7 @@ use mathlib.Core.List.{List, [], _++_}
 use Prim.Native.Nat.{ℕ, _*_, _≤_, _<_}
 use native.Mathlib.Nat.{mul-le-mul}
 use native.Mathlib.Omega.{arith}
-use borrow.Author.Tests.{lt-ltb, le-ltb, lt-leb, ltb-false, eqb-false, not-false}
+use borrow.Author.Tests.{lt-ltb, le-ltb, lt-leb, ltb-false, eqb-false}
 use lib.Dec.{eqb, leb, ltb}
 use lib.ListN.{length}
 use Rattle.field.specs.Answer.{Outcome, given, refused, unless, before, codeOf}
@@ -170,7 +170,8 @@ module _ (r : Row) (v : List ℕ) (k t : ℕ) (es xs a d o : List ℕ) where
         subst (λ (p : Outcome (Unit {0})). SolvingBy (andRoom p (length f) 1) r v k t es xs a d o f a₁ d₁ o₁ f₁ n) (sym (u .0))
         (rw (le-ltb (length f) 1 l) (x, u, q .0, q .1))
 
-    pub told-refused : (y : Solution) (w : Refusal) → Solves r v k t es xs a d o a₁ d₁ o₁ y → y ≡ Refused w → n ≡ codeOf w → Solving r v k t es xs a d o f a₁ d₁ o₁ f n
+    pub told-refused : (y : Solution) (w : Refusal) → Solves r v k t es xs a d o a₁ d₁ o₁ y → y ≡ Refused w → n ≡ codeOf w
+        → Solving r v k t es xs a d o f a₁ d₁ o₁ f n
     told-refused y w h e q =
         let u = subst (Solves r v k t es xs a d o a₁ d₁ o₁) e h in
         subst (λ (p : Outcome (Unit {0})). SolvingBy (andRoom p (length f) 1) r v k t es xs a d o f a₁ d₁ o₁ f n) (sym (u .0)) (q, u .1, u .2, u .3, refl)

@@ -1,24 +1,24 @@
 -- The rules of a row: the tests decide them, the walk over them takes what it took before parts were told, and a refusal's part is the first rule that
 -- breaks (document 02, E7).
 -- Assumes nothing.
-use mathlib.Core.Path.{_≡_, refl, sym, ap, _∙_, subst}
+use mathlib.Core.Path.{_≡_, refl, sym, ap, _∙_}
 use mathlib.Core.Bool.{Bool, true, false, not}
-use mathlib.Core.List.{List, [], _∷_, _++_}
-use Prim.Native.Nat.{ℕ, zero, suc, _+_, _-_, _*_, _%_, _≤_, _<_}
+use mathlib.Core.List.{List, [], _∷_}
+use Prim.Native.Nat.{ℕ, zero, suc, _+_, _-_, _%_, _≤_, _<_}
 use native.Mathlib.Decide.{decLt}
 use native.Mathlib.Omega.{arith}
-use lib.Dec.{eqb, leb, ltb}
+use lib.Dec.{eqb, leb}
 use lib.ListN.{length}
-use Rattle.field.specs.Answer.{Outcome, given, refused, before, coded, codeOf, placeOf}
+use Rattle.field.specs.Answer.{Outcome, given, refused, unless, before, coded, codeOf, numberIn, placeOf}
 use Rattle.field.specs.Choice.{both}
 use Rattle.field.specs.declared.refusal.Part.{Part}
 use Rattle.field.specs.declared.refusal.Part.the-variants as Parts
 use Rattle.field.specs.declared.refusal.Refusal.the-variants as Why
-use Rattle.field.proofs.Answers.{given-only, refused-only, given-not-refused, partNamed, place-named, place-low, place-high, place-only}
+use Rattle.field.proofs.Answers.{refused-only, given-not-refused, partNamed, place-named, place-low, place-high, place-only}
 use Rattle.field.proofs.Refusals.{passed-before}
-use Rattle.headers.specs.Prime.{Prime, prime}
+use Rattle.headers.specs.Prime.{Prime}
 use Rattle.headers.specs.Row.{Ranges, Derived, Obeys, obeys, between, sixteen, fitting, rules, all, walk, verified, Refuses, Rule, FirstBroken}
-use Rattle.headers.specs.Row.{bands, lOf, pOf, bOf, p1Of, completed}
+use Rattle.headers.specs.Row.{bands, lOf, pOf, bOf, p1Of}
 use Rattle.headers.specs.declared.row.Row.{Row}
 use Rattle.headers.proofs.Tests.{Tells, tells-both, tells-as, tells-le, tells-lt, tells-eq, is-true, is-false, tells-true}
 use Rattle.headers.proofs.Primes.{prime-tells}
@@ -127,6 +127,30 @@ walk-accepts place (false ∷ bs) = refl
 pub as-before : (r : Row) → accepts (verified r) ≡ obeys r
 unfolding obeys verified
 as-before r = walk-accepts 1 (rules r)
+
+-- an outcome with numbers alone
+abbrev pub plain : {A : Type 0} → Outcome A → Outcome A
+plain (given a) = given a
+plain (refused n) = refused (numberIn n)
+
+walk-plain : (place : ℕ) (bs : List Bool) → plain (walk place bs) ≡ unless (not (all bs)) 4 (given tt)
+walk-plain place [] = refl
+walk-plain place (true ∷ bs) = walk-plain (suc place) bs
+walk-plain place (false ∷ bs) = let e : numberIn (coded 4 place) ≡ 4 = omega arith in ap refused e
+
+-- With its parts left out the walk answers as the test of all rules did, by 4, and so does every chain of refusals that begins with it.
+pub without-parts : (r : Row) → plain (verified r) ≡ unless (not (obeys r)) 4 (given tt)
+unfolding obeys verified
+without-parts r = walk-plain 1 (rules r)
+
+pub chain-without-parts : {A : Type 0} (r : Row) (o : Outcome A) → plain (before (verified r) o) ≡ unless (not (obeys r)) 4 (plain o)
+chain-without-parts {A} r o = go (verified r) (obeys r) (without-parts r)
+  where
+    go : (x : Outcome (Unit {0})) (b : Bool) → plain x ≡ unless (not b) 4 (given tt) → plain (before x o) ≡ unless (not b) 4 (plain o)
+    go (given a) true e = refl
+    go (given a) false e = absurd (given-not-refused a 4 e)
+    go (refused n) true e = absurd (given-not-refused tt (numberIn n) (sym e))
+    go (refused n) false e = ap refused (refused-only (numberIn n) 4 e)
 
 accepted-is : (o : Outcome (Unit {0})) → accepts o ≡ true → o ≡ given tt
 accepted-is (given tt) e = refl

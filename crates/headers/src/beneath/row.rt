@@ -62,7 +62,7 @@ fn in_range(kp: u32, j: u32, s: u32, h: u32, w: u32) -> Ranging
 }
 
 // The rules in document 01's order, and what follows. Nothing else works L, P, B or P1 out: whoever needs one reads it from a record. It gives four
-// numbers and no record, since `obeys` has the other five: nine would make a tuple of the smallest row a twelfth slower.
+// numbers and no record, since `verify` has the other five: nine would make a tuple of the smallest row a twelfth slower.
 pub fn derive(kp: u32, j: u32, s: u32, h: u32, w: u32) -> Derivation
     ensures { λ d. ⌜ Derives kp j s h w d ⌝ }
 {

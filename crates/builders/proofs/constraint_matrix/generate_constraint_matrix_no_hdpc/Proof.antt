@@ -5,7 +5,6 @@ use native.Mathlib.Omega.{arith}
 use borrow.Author.Needs.{needs}
 use Rattle.field.proofs.Refusals.{stopped, told}
 use Rattle.headers.specs.Row.{Obeys}
-use Rattle.headers.proofs.Tests.{granted, denied}
 use Rattle.headers.proofs.Rules.{obeying}
 use Rattle.builders.proofs.constraint_matrix.generate_constraint_matrix_no_hdpc.Statement.{statement}
 use Rattle.builders.proofs.constraint_matrix.generate_constraint_matrix_no_hdpc.Tie as tie

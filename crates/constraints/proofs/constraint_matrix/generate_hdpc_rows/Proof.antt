@@ -8,7 +8,6 @@ use borrow.Author.Tests.{lt-ltb, le-ltb, eq-eqb, ne-eqb}
 use borrow.Author.Needs.{needs}
 use Rattle.field.proofs.Refusals.{stopped, told, left}
 use Rattle.headers.specs.Row.{Obeys, lOf}
-use Rattle.headers.proofs.Tests.{granted, denied}
 use Rattle.headers.proofs.Rules.{obeyed, obeying}
 use Rattle.constraints.proofs.constraint_matrix.generate_hdpc_rows.Statement.{statement}
 use Rattle.constraints.proofs.constraint_matrix.generate_hdpc_rows.Tie as tie

@@ -9,7 +9,6 @@ use lib.Dec.{ltb}
 use Rattle.field.specs.Answer.{given, unless}
 use Rattle.field.proofs.Refusals.{stopped, told}
 use Rattle.headers.specs.Row.{Obeys, lOf}
-use Rattle.headers.proofs.Tests.{granted, denied}
 use Rattle.headers.proofs.Rules.{obeyed, obeying}
 use borrow.Author.Needs.{needs}
 use Rattle.encoding.specs.Encoded.{allowed}
@@ -42,13 +41,34 @@ returns-3 : tie.Need-returns-3
 returns-3 c = simp (obeyed (fine (c .before .before)), eq-eqb _ _ (c .before .if1 .left), lt-leb _ _ (c .if2 .taken))
 
 returns-4 : tie.Need-returns-4
-returns-4 c = simp (obeyed (fine (c .before .before .before .before)), eq-eqb _ _ (c .before .before .before .if1 .left), le-leb _ _ (c .before .before .if2 .left), lt-leb _ _ (c .if3 .taken))
+returns-4 c =
+    simp (
+      obeyed (fine (c .before .before .before .before)),
+      eq-eqb _ _ (c .before .before .before .if1 .left),
+      le-leb _ _ (c .before .before .if2 .left),
+      lt-leb _ _ (c .if3 .taken),
+    )
 
 returns-5 : tie.Need-returns-5
-returns-5 c = simp (obeyed (fine (c .before .before .before .before .before)), eq-eqb _ _ (c .before .before .before .before .if1 .left), le-leb _ _ (c .before .before .before .if2 .left), le-leb _ _ (c .before .if3 .left), le-leb _ _ (c .if4 .taken))
+returns-5 c =
+    simp (
+      obeyed (fine (c .before .before .before .before .before)),
+      eq-eqb _ _ (c .before .before .before .before .if1 .left),
+      le-leb _ _ (c .before .before .before .if2 .left),
+      le-leb _ _ (c .before .if3 .left),
+      le-leb _ _ (c .if4 .taken),
+    )
 
 returns-6 : tie.Need-returns-6
-returns-6 c = simp (obeyed (fine (c .before .before .before .before .before .before)), eq-eqb _ _ (c .before .before .before .before .before .if1 .left), le-leb _ _ (c .before .before .before .before .if2 .left), le-leb _ _ (c .before .before .if3 .left), lt-leb _ _ (c .before .if4 .left), eq-eqb _ _ (c .if5 .taken))
+returns-6 c =
+    simp (
+      obeyed (fine (c .before .before .before .before .before .before)),
+      eq-eqb _ _ (c .before .before .before .before .before .if1 .left),
+      le-leb _ _ (c .before .before .before .before .if2 .left),
+      le-leb _ _ (c .before .before .if3 .left),
+      lt-leb _ _ (c .before .if4 .left),
+      eq-eqb _ _ (c .if5 .taken),
+    )
 
 cast-if6 : tie.Need-cast-if6
 cast-if6 c = search needs
@@ -83,7 +103,8 @@ returns-7 c =
     sym (rest t ∙ simp (lt-ltb _ _ e))
 
 -- past the seventh the intermediate symbols are there
-symbols : (c : tie.Else6) → let a = c .before .before .before .before .before .before .before .before .before .before .before .args in lOf (a .r) * a .t ≤ a .have
+symbols : (c : tie.Else6) → let a = c .before .before .before .before .before .before .before .before .before .before .before .args in
+    lOf (a .r) * a .t ≤ a .have
 symbols c =
     let a = c .before .before .before .before .before .before .before .before .before .before .before .args in
     subst (λ (n : ℕ). n * a .t ≤ a .have) (fine (c .before .before .before .before .before .before .before .before) .derived .l-fits) (c .if6 .left)

@@ -62,7 +62,9 @@ returns-3 : tie.Need-returns-3
 returns-3 c =
     let at = c .before .before .before .before in
     let a = at .before .before .before .before .before .before .args in
-    called-place (a .count) (a .t) (now (a .esis)) (length (now (a .arrivals))) (length (now (a .rebuilt))) (a .i) _ (refused _) (at .before .measured .ensures) (sym (ap placeOutcome (c .before .before .why .given .1)) ∙ at .locate .ensures) (record { answer = c .code .ensures; memory = refl })
+    let found = sym (ap placeOutcome (c .before .before .why .given .1)) ∙ at .locate .ensures in
+    called-place (a .count) (a .t) (now (a .esis)) (length (now (a .arrivals))) (length (now (a .rebuilt))) (a .i) _ (refused _)
+    (at .before .measured .ensures) found (record { answer = c .code .ensures; memory = refl })
 
 pub spoonripple-display-spec : {M : Type 1} → statement M
 spoonripple-display-spec =

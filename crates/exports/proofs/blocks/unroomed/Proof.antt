@@ -55,7 +55,9 @@ returns-2 : tie.Need-returns-2
 returns-2 c =
     let at = c .before .before .before .before .before .before .before .before .before .before in
     let a = at .before .before .before .before .before .before .before .before .before .before .args in
-    rows-refused (a .r) (now (a .tables)) (a .count) (a .t) (now (a .esis)) (now (a .symbols)) (now (a .rows)) (now (a .values)) (now (a .out)) (at .solve .last .1 .1 .1 .1 .1 .1 .0) (at .solve .last .1 .1 .1 .1 .1 .1 .1 .0) (at .solve .last .1 .1 .1 .1 .1 .1 .1 .1 .0) _ _ (at .solve .ensures) (c .before .before .why .given .1) (c .code .ensures)
+    let z = at .solve .last .1 .1 .1 .1 .1 .1 in
+    rows-refused (a .r) (now (a .tables)) (a .count) (a .t) (now (a .esis)) (now (a .symbols)) (now (a .rows)) (now (a .values)) (now (a .out))
+    (z .0) (z .1 .0) (z .1 .1 .0) _ _ (at .solve .ensures) (c .before .before .why .given .1) (c .code .ensures)
 
 pub unroomed-spec : {M : Type 1} → statement M
 unroomed-spec =

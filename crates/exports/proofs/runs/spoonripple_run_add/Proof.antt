@@ -18,7 +18,9 @@ same-length : tie.Need-same-length
 same-length c = search needs
 
 returns-2 : tie.Need-returns-2
-returns-2 c = record { below = Done; meets = rw (eq-eqb _ _ (c .before .before .before .before .if1 .left)) (refl, c .before .before .add .ensures); result = refl }
+returns-2 c =
+    let e = eq-eqb _ _ (c .before .before .before .before .if1 .left) in
+    record { below = Done; meets = rw e (refl, c .before .before .add .ensures); result = refl }
 
 pub spoonripple-run-add-spec : {M : Type 1} → statement M
 spoonripple-run-add-spec = tie.close (tie.spec returns add-requires same-length returns-2)

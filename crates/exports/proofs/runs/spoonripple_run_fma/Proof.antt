@@ -18,7 +18,9 @@ same-length : tie.Need-same-length
 same-length c = search needs
 
 returns-2 : tie.Need-returns-2
-returns-2 c = record { below = Done; meets = rw (eq-eqb _ _ (c .before .before .before .before .if1 .left)) (refl, c .before .before .fma .ensures); result = refl }
+returns-2 c =
+    let e = eq-eqb _ _ (c .before .before .before .before .if1 .left) in
+    record { below = Done; meets = rw e (refl, c .before .before .fma .ensures); result = refl }
 
 pub spoonripple-run-fma-spec : {M : Type 1} → statement M
 spoonripple-run-fma-spec = tie.close (tie.spec returns fma-requires same-length returns-2)

@@ -78,7 +78,9 @@ returns-7 c =
     )
 
 mul-if7 : tie.Need-mul-if7
-mul-if7 c = let a = c .before .before .before .before .before .before .before .before .before .before .args in omega (arith, mul-le-mul {n₁ = a .n} {m₁ = a .t} {n₂ = 65535} {m₂ = 65535} (omega arith) (omega arith))
+mul-if7 c =
+    let a = c .before .before .before .before .before .before .before .before .before .before .args in
+    omega (arith, mul-le-mul {n₁ = a .n} {m₁ = a .t} {n₂ = 65535} {m₂ = 65535} (omega arith) (omega arith))
 
 returns-8 : tie.Need-returns-8
 returns-8 c =

@@ -47,7 +47,9 @@ lt-prime : (c : tie.Else1) → Prime (c .before .before .before .before .before 
 lt-prime c = granted (c .before .is-prime .result) (c .if1 .left) (c .before .is-prime .ensures)
 
 returns-3 : tie.Need-returns-3
-returns-3 c = breaks-b (own (c .before .before .before .before .before .before)) (ranged (c .before .before .before)) (lt-prime (c .before)) (λ o. omega (arith, o))
+returns-3 c =
+    let r = c .before .before .before in
+    breaks-b (own (r .before .before .before)) (ranged r) (lt-prime (c .before)) (λ o. omega (arith, o))
 
 b-low : (c : tie.Else2) → 1 ≤ bOf (own (c .before .before .before .before .before .before))
 b-low c = omega arith

@@ -32,28 +32,46 @@ narrow : (c : tie.Else5) → Rule (own (c .before .before .before .before .befor
 narrow c = (omega arith, (omega arith, (omega arith, (omega arith, omega arith))))
 
 returns-6 : tie.Need-returns-6
-returns-6 c = breaks-kp (own (c .before .before .before .before .before .before)) (narrow (c .before)) (λ o. omega (arith, o .0))
+returns-6 c =
+    let n = c .before in
+    breaks-kp (own (n .before .before .before .before .before)) (narrow n) (λ o. omega (arith, o .0))
 
 returns-7 : tie.Need-returns-7
-returns-7 c = breaks-kp (own (c .before .before .before .before .before .before .before)) (narrow (c .before .before)) (λ o. omega (arith, o .1))
+returns-7 c =
+    let n = c .before .before in
+    breaks-kp (own (n .before .before .before .before .before)) (narrow n) (λ o. omega (arith, o .1))
 
 kp-in : (c : tie.Else7) → Rule (own (c .before .before .before .before .before .before .before)) Parts.Kp
 kp-in c = (omega arith, omega arith)
 
 returns-8 : tie.Need-returns-8
-returns-8 c = breaks-s (own (c .before .before .before .before .before .before .before .before)) (narrow (c .before .before .before)) (kp-in (c .before)) (λ o. omega (arith, o .0))
+returns-8 c =
+    let k = c .before in
+    let n = k .before .before in
+    breaks-s (own (n .before .before .before .before .before)) (narrow n) (kp-in k) (λ o. omega (arith, o .0))
 
 returns-9 : tie.Need-returns-9
-returns-9 c = breaks-s (own (c .before .before .before .before .before .before .before .before .before)) (narrow (c .before .before .before .before)) (kp-in (c .before .before)) (λ o. omega (arith, o .1))
+returns-9 c =
+    let k = c .before .before in
+    let n = k .before .before in
+    breaks-s (own (n .before .before .before .before .before)) (narrow n) (kp-in k) (λ o. omega (arith, o .1))
 
 s-in : (c : tie.Else9) → Rule (own (c .before .before .before .before .before .before .before .before .before)) Parts.S
 s-in c = (omega arith, omega arith)
 
 returns-10 : tie.Need-returns-10
-returns-10 c = breaks-h (own (c .before .before .before .before .before .before .before .before .before .before)) (narrow (c .before .before .before .before .before)) (kp-in (c .before .before .before)) (s-in (c .before)) (λ o. omega (arith, o .0))
+returns-10 c =
+    let s = c .before in
+    let k = s .before .before in
+    let n = k .before .before in
+    breaks-h (own (n .before .before .before .before .before)) (narrow n) (kp-in k) (s-in s) (λ o. omega (arith, o .0))
 
 returns-11 : tie.Need-returns-11
-returns-11 c = breaks-h (own (c .before .before .before .before .before .before .before .before .before .before .before)) (narrow (c .before .before .before .before .before .before)) (kp-in (c .before .before .before .before)) (s-in (c .before .before)) (λ o. omega (arith, o .1))
+returns-11 c =
+    let s = c .before .before in
+    let k = s .before .before in
+    let n = k .before .before in
+    breaks-h (own (n .before .before .before .before .before)) (narrow n) (kp-in k) (s-in s) (λ o. omega (arith, o .1))
 
 returns-12 : tie.Need-returns-12
 returns-12 c = search needs
