@@ -13,7 +13,10 @@
  *   caller's part, and with an overlap nothing is promised. Slices that are only read may overlap one another.
  *
  * Answers
- *   The result is SPOONRIPPLE_DONE, or the number of a refusal in docs/01-scope.md; spoonripple_solve has two more answers.
+ *   The low byte of the result is a number, above it stands a part: SPOONRIPPLE_NUMBER and SPOONRIPPLE_PART read them. The number
+ *   is SPOONRIPPLE_DONE, or that of a refusal in docs/01-scope.md; spoonripple_solve has two more. The part is 0 with every number
+ *   but 4. A refused row has one, 1 to 10: the first of its rules that breaks, SPOONRIPPLE_PART_WIDE to SPOONRIPPLE_PART_DERIVED.
+ *   So no result is 4 itself: with SPOONRIPPLE_BAD_ROW a result is compared only through SPOONRIPPLE_NUMBER.
  *   Each call lists its refusals in the order in which they are tested: the first that applies is the answer.
  *   A call that refuses has changed nothing that it was lent. No call holds memory, keeps a pointer or has a state: calls
  *   from many threads on memory of their own are independent.
@@ -32,7 +35,9 @@
  *   from them, L = K' + S + H, P = L - W, B = W - S and P1, the smallest prime not below P. spoonripple_row_check alone makes
  *   it, of the five. A caller works none of the four out but reads them off: row[5] is L, row[6] P, row[7] B, row[8] P1.
  *   Every other call with a row takes the record, as `k, j, s, h, w, l, p, b, p1`, and verifies it: 4 where it is not one that
- *   spoonripple_row_check makes; bindings/c/records.c tries that of each. SPOONRIPPLE_ROW spreads it into the nine arguments:
+ *   spoonripple_row_check makes, with part 1 to 9 where the five are refused there, and part 10 where L, P, B or P1 is another;
+ *   bindings/c/records.c tries that of each, and bindings/c/row_words.h says it in words. SPOONRIPPLE_ROW spreads it into the nine
+ *   arguments:
  *       uint64_t row[9];
  *       uint32_t code = spoonripple_row_check(10, 254, 7, 10, 17, row, 9);
  *       if (code == SPOONRIPPLE_DONE) code = spoonripple_isi(SPOONRIPPLE_ROW(row), 10, 12, out, 1);
@@ -53,6 +58,10 @@
 extern "C" {
 #endif
 
+/* The number of a result, and its part: 0 but where the number is SPOONRIPPLE_BAD_ROW. */
+#define SPOONRIPPLE_NUMBER(result) ((uint32_t)(result) & 255u)
+#define SPOONRIPPLE_PART(result) ((uint32_t)(result) >> 8)
+
 #define SPOONRIPPLE_DONE 0
 /* An octet is divided by 0. */
 #define SPOONRIPPLE_DIVISOR_ZERO 1
@@ -60,7 +69,8 @@ extern "C" {
 #define SPOONRIPPLE_OUT_OF_RANGE 2
 /* Transmission information breaks its rules. */
 #define SPOONRIPPLE_BAD_TRANSMISSION 3
-/* The parameter row breaks its rules, or L, P, B or P1 of its record is not that of the row. */
+/* The parameter row breaks its rules, or L, P, B or P1 of its record is not that of the row: always with a part, so that it is
+ * SPOONRIPPLE_NUMBER(result) that is 4, never the result itself. */
 #define SPOONRIPPLE_BAD_ROW 4
 /* The random tables are not 1,024 numbers. */
 #define SPOONRIPPLE_BAD_TABLES 5
@@ -78,6 +88,30 @@ extern "C" {
 /* No refusals: what spoonripple_solve answers besides. */
 #define SPOONRIPPLE_CONTRADICTION 100
 #define SPOONRIPPLE_OPEN 101
+
+/* The parts of SPOONRIPPLE_BAD_ROW: the rules of a row in the order in which they are tested, of which the first that breaks is
+ * given. Each says which number is wrong, where among the arguments its value stands, and what the rule asks. */
+/* Of K', J, S, H, W, the arguments k, j, s, h, w, each must be below 65,536: wrong is the first that is not. */
+#define SPOONRIPPLE_PART_WIDE 1
+/* K', the argument k, must be from 1 to 56,403. */
+#define SPOONRIPPLE_PART_KP 2
+/* S, the argument s, must be odd and at least 3. */
+#define SPOONRIPPLE_PART_S 3
+/* H, the argument h, must be from 2 to 255. */
+#define SPOONRIPPLE_PART_H 4
+/* W, the argument w, must be a prime. */
+#define SPOONRIPPLE_PART_W 5
+/* B, which is w - s and can be below 0, must be at least 1. */
+#define SPOONRIPPLE_PART_B 6
+/* P, which is k + s + h - w and can be below 0, must be at least 3. */
+#define SPOONRIPPLE_PART_P 7
+/* ceil(B/S), which is (w - s) / s rounded up, must be below S, the argument s. */
+#define SPOONRIPPLE_PART_LDPC 8
+/* L, which is k + s + h, must be at most 65,535. */
+#define SPOONRIPPLE_PART_L 9
+/* Of L, P, B, P1, the arguments l, p, b, p1 of a call that takes a record, each must be what spoonripple_row_check makes of the
+ * other five: wrong is the first that is not. */
+#define SPOONRIPPLE_PART_DERIVED 10
 
 /* The record that spoonripple_row_check wrote to uint64_t row[9], as the nine arguments of a call. */
 #define SPOONRIPPLE_ROW(row)                                                                            \
@@ -171,17 +205,18 @@ uint32_t spoonripple_deg(uint32_t v, uint32_t w, uint64_t *out, size_t out_len);
 
 /* Checks a parameter row and makes its record: K', J, S, H, W, L, P, B, P1. The rules: each number below 65,536, K' in 1..56,403,
  * S odd and at least 3, H in 2..255, W prime, B at least 1, P at least 3, ceil(B/S) below S, L at most 65,535. The calls that
- * take a record add one more, and that last: L, P, B and P1 are what this call makes of the five.
- * Refusals: 4 (a rule is broken), 8 (out below 9 places). Writes out[0] to out[8]. */
+ * take a record add one more, and that last: L, P, B and P1 are what this call makes of the five. Their places in this order are
+ * the parts: the first rule that breaks is the part of the refusal, 1 to 9 here.
+ * Refusals: 4 (a rule is broken, its part says which), 8 (out below 9 places). Writes out[0] to out[8]. */
 uint32_t spoonripple_row_check(uint32_t k, uint32_t j, uint32_t s, uint32_t h, uint32_t w, uint64_t *out, size_t out_len);
 
 /* The ISI of an ESI in a block of count source symbols: esi where it is below count, else esi + K' - count.
- * Refusals: 4 (the row), 9 (esi of 2^24 or more), 9 (count not in 1..K'), 8 (out has no place). Writes out[0]. */
+ * Refusals: 4 (the row, with its part), 9 (esi of 2^24 or more), 9 (count not in 1..K'), 8 (out has no place). Writes out[0]. */
 uint32_t spoonripple_isi(uint32_t k, uint32_t j, uint32_t s, uint32_t h, uint32_t w, uint32_t l, uint32_t p, uint32_t b, uint32_t p1,
                          uint32_t count, uint32_t esi, uint64_t *out, size_t out_len);
 
 /* The tuple of an ISI of any 32 bits (5.3.5.4): d, a, b, d1, a1, b1. An ESI goes through spoonripple_isi first.
- * Refusals: 4 (the row), 5 (the tables), 8 (out below 6 places). Writes out[0] to out[5]. */
+ * Refusals: 4 (the row, with its part), 5 (the tables), 8 (out below 6 places). Writes out[0] to out[5]. */
 uint32_t spoonripple_tuple(uint32_t k, uint32_t j, uint32_t s, uint32_t h, uint32_t w, uint32_t l, uint32_t p, uint32_t b, uint32_t p1,
                            const uint32_t *tables, size_t tables_len, uint32_t isi, uint64_t *out, size_t out_len);
 
@@ -274,26 +309,26 @@ uint32_t spoonripple_matrix_resize(uint64_t *words, size_t words_len, size_t hei
 /* ---- The linear system (RFC 6330, 5.3.3.3 and 5.3.5.3) ---- */
 
 /* The walk of a tuple: the d + d1 intermediate symbols that it adds up, in walk order.
- * Refusals: 4 (the row), 2 (the tuple: d not in 1..30 or above W - 2, a not in 1..W - 1, tuple_b not below W, d1 not 2 or 3,
- * a1 not in 1..P1 - 1, b1 not below P1), 8 (list below d + d1 places). Writes the first d + d1 places of list. */
+ * Refusals: 4 (the row, with its part), 2 (the tuple: d not in 1..30 or above W - 2, a not in 1..W - 1, tuple_b not below W, d1
+ * not 2 or 3, a1 not in 1..P1 - 1, b1 not below P1), 8 (list below d + d1 places). Writes the first d + d1 places of list. */
 uint32_t spoonripple_enc_indices(uint32_t k, uint32_t j, uint32_t s, uint32_t h, uint32_t w, uint32_t l, uint32_t p, uint32_t b, uint32_t p1,
                                  uint32_t d, uint32_t a, uint32_t tuple_b, uint32_t d1, uint32_t a1, uint32_t b1, uint32_t *list, size_t list_len);
 
 /* The HDPC rows: H rows of L octets, row after row.
- * Refusals: 4 (the row), 5 (the tables), 8 (store below H * L octets). Writes the first H * L octets of store. */
+ * Refusals: 4 (the row, with its part), 5 (the tables), 8 (store below H * L octets). Writes the first H * L octets of store. */
 uint32_t spoonripple_hdpc_rows(uint32_t k, uint32_t j, uint32_t s, uint32_t h, uint32_t w, uint32_t l, uint32_t p, uint32_t b, uint32_t p1,
                                const uint32_t *tables, size_t tables_len, uint8_t *store, size_t store_len);
 
 /* The constraint matrix as bits, laid out as above with width L: S LDPC rows, H rows of 0 in the place of the HDPC rows, and one
  * row for each ISI of any 32 bits; stray bits are 0.
- * Refusals: 4 (the row), 5 (the tables), 9 (below K' ids), 9 (more than 65,535), 8 (words below the matrix).
+ * Refusals: 4 (the row, with its part), 5 (the tables), 9 (below K' ids), 9 (more than 65,535), 8 (words below the matrix).
  * Writes the (S + H + isis_len) * ceil(L / 64) words of the matrix. */
 uint32_t spoonripple_constraint_matrix(uint32_t k, uint32_t j, uint32_t s, uint32_t h, uint32_t w, uint32_t l, uint32_t p, uint32_t b, uint32_t p1,
                                        const uint32_t *tables, size_t tables_len, const uint32_t *isis, size_t isis_len,
                                        uint64_t *words, size_t words_len);
 
 /* The same without the H rows of 0.
- * Refusals: 4 (the row), 5 (the tables), 9 (below K' + H ids), 9 (more than 65,535), 8 (words below the matrix).
+ * Refusals: 4 (the row, with its part), 5 (the tables), 9 (below K' + H ids), 9 (more than 65,535), 8 (words below the matrix).
  * Writes the (S + isis_len) * ceil(L / 64) words of the matrix. */
 uint32_t spoonripple_constraint_matrix_no_hdpc(uint32_t k, uint32_t j, uint32_t s, uint32_t h, uint32_t w, uint32_t l, uint32_t p, uint32_t b, uint32_t p1,
                                                const uint32_t *tables, size_t tables_len, const uint32_t *isis, size_t isis_len,
@@ -303,8 +338,9 @@ uint32_t spoonripple_constraint_matrix_no_hdpc(uint32_t k, uint32_t j, uint32_t 
 
 /* The symbol of an ESI of a block of count source symbols of t octets, from its L intermediate symbols, L * t octets. For an
  * ESI below count that is a source symbol.
- * Refusals: 4 (the row), 5 (the tables), 9 (count not in 1..K'), 9 (esi of 2^24 or more), 10 (t is 0), 8 (intermediates below
- * L * t octets), 8 (out below t octets), 8 (a walk of more than 32 places, which no ESI has). Writes the first t octets of out. */
+ * Refusals: 4 (the row, with its part), 5 (the tables), 9 (count not in 1..K'), 9 (esi of 2^24 or more), 10 (t is 0), 8
+ * (intermediates below L * t octets), 8 (out below t octets), 8 (a walk of more than 32 places, which no ESI has). Writes the first
+ * t octets of out. */
 uint32_t spoonripple_encode(uint32_t k, uint32_t j, uint32_t s, uint32_t h, uint32_t w, uint32_t l, uint32_t p, uint32_t b, uint32_t p1,
                             const uint32_t *tables, size_t tables_len, uint32_t count, uint16_t t, uint32_t esi,
                             const uint8_t *intermediates, size_t intermediates_len, uint8_t *out, size_t out_len);
@@ -318,8 +354,8 @@ uint32_t spoonripple_encode(uint32_t k, uint32_t j, uint32_t s, uint32_t h, uint
  *   SPOONRIPPLE_CONTRADICTION  none fits: something that arrived is not what the sender sent
  *   SPOONRIPPLE_OPEN           more than one fits: shortfall[0] independent rows are missing, so that at least so many more
  *                              arrivals are needed
- * or a refusal: 4 (the row), 5 (the tables), 9 (an ESI of 2^24 or more), 9 (count not in 1..K'), 9 (more than 65,535 arrivals),
- * 10 (t is 0), 10 (symbols_len is not n * t), 8 (rows, values or out too short), 8 (shortfall has no place).
+ * or a refusal: 4 (the row, with its part), 5 (the tables), 9 (an ESI of 2^24 or more), 9 (count not in 1..K'), 9 (more than 65,535
+ * arrivals), 10 (t is 0), 10 (symbols_len is not n * t), 8 (rows, values or out too short), 8 (shortfall has no place).
  * Lent: rows and values are scratch of any content, M * L and M * t octets, where M = L - count + n; out is L * t octets.
  * Writes: after each answer that is no refusal the first M * L octets of rows and M * t of values are 0. The first L * t octets of
  * out are written only with SPOONRIPPLE_DONE, shortfall[0] only with SPOONRIPPLE_OPEN.
