@@ -110,7 +110,7 @@ static void generators(void) {
     CASE(8, rand(TABLES, 5, 6, 7, NONE));
     CASE(8, deg(5, 17, NONE));
     CASE(8, row_check(FIVE, NONE));
-    CASE(4, row_check(0, 0, 0, 0, 0, NONE));
+    CASE(516, row_check(0, 0, 0, 0, 0, NONE)); /* 4, part 2 */
     CASE(8, isi(ROW, 10, 3, NONE));
     CASE(5, tuple(ROW, NONE, 3, OUT));
     CASE(8, tuple(ROW, TABLES, 3, NONE));

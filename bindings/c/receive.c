@@ -3,6 +3,7 @@
  * The delivery is bindings/data/delivery.txt, which the published crate's encoder sent: the 12 bytes of its header, and packets
  * of 4 + 4 bytes, of which three source packets were lost and four repair packets came. */
 #include "../../include/spoonripple.h"
+#include "row_words.h"
 #include <stdio.h>
 #include <stdlib.h>
 
@@ -18,10 +19,11 @@ static const uint8_t delivery[] = {
 };
 
 static void stop_at(uint32_t code, const char *where) {
-    if (code != SPOONRIPPLE_DONE) {
-        fprintf(stderr, "%s: refused %u\n", where, (unsigned)code);
-        exit(2);
-    }
+    if (code == SPOONRIPPLE_DONE) return;
+    fprintf(stderr, "%s: refused %u", where, (unsigned)SPOONRIPPLE_NUMBER(code));
+    if (SPOONRIPPLE_PART(code) != 0) fprintf(stderr, ", part %u", (unsigned)SPOONRIPPLE_PART(code));
+    fputc('\n', stderr);
+    exit(2);
 }
 
 static void *room(size_t octets) {
@@ -34,7 +36,7 @@ static void *room(size_t octets) {
 }
 
 int main(int argc, char **argv) {
-    uint64_t info[5], row[9], packet[4], shortfall[1];
+    uint64_t info[5], packet[4], shortfall[1];
     size_t came = (sizeof delivery - 12) / 8, n = argc > 1 ? strtoul(argv[1], NULL, 10) : came;
     if (n > came) n = came;
 
@@ -49,8 +51,11 @@ int main(int argc, char **argv) {
     uint32_t count = (uint32_t)((length + t - 1) / t);
     const uint32_t *r = rows_of_table_2;
     while (r[0] < count) r += 5;
-    /* The check makes the row's record: whatever is asked of the row, L too, is read off it. */
-    stop_at(spoonripple_row_check(r[0], r[1], r[2], r[3], r[4], row, 9), "row");
+    /* The check makes the row's record: whatever is asked of the row, L too, is read off it. Where it refuses, `row` stays, and
+     * the words name the number that is wrong: rows are typed in. */
+    uint64_t row[9] = {r[0], r[1], r[2], r[3], r[4]};
+    uint32_t code = spoonripple_row_check(r[0], r[1], r[2], r[3], r[4], row, 9);
+    if (code != SPOONRIPPLE_DONE) return row_words(stderr, code, row), 2;
 
     /* The packets in the order in which they came: ESIs in one store, symbols in the other. */
     uint32_t *esis = room(n * sizeof *esis);
@@ -65,8 +70,8 @@ int main(int argc, char **argv) {
     /* Each store is memory of its own: what is lent for writing may overlap nothing. */
     size_t l = row[5], m = l - count + n;
     uint8_t *rows = room(m * l), *values = room(m * t), *set = room(l * t), *source = room((size_t)count * t);
-    uint32_t code = spoonripple_solve(SPOONRIPPLE_ROW(row), tables, 1024, count, t, esis, n, symbols, n * t,
-                                      rows, m * l, values, m * t, set, l * t, shortfall, 1);
+    code = spoonripple_solve(SPOONRIPPLE_ROW(row), tables, 1024, count, t, esis, n, symbols, n * t,
+                             rows, m * l, values, m * t, set, l * t, shortfall, 1);
     /* Words are no bytes of the object: they go to standard error. */
     if (code == SPOONRIPPLE_OPEN) return fprintf(stderr, "open, %u more independent packets at least\n", (unsigned)shortfall[0]), 1;
     if (code == SPOONRIPPLE_CONTRADICTION) return fputs("contradiction\n", stderr), 1;
