@@ -7,6 +7,8 @@
 //! - **No overlap.** C cannot test that what is lent for writing overlaps nothing else; here a `&mut` slice cannot.
 //! - **No numbers for answers.** Refusals are a [`Refusal`], what the solver says is a [`Verdict`].
 //! - **Row and tables are checked once,** when a [`Row`] and [`Tables`] are made, so that refusals 4 and 5 come from there alone.
+//! - **A refused row says what is wrong.** Refusal 4 has its [`Part`], the first rule that breaks, and with the numbers that were handed over ([`BadRow`]) it
+//!   is a sentence: which number, what it was, what the rule asks.
 //! - **One place for the row's numbers.** L, P, B and P1 are read off a [`Row`], as the archive's check made them; nothing here works them out.
 //!
 //! A refusal changes nothing that was lent.
@@ -36,6 +38,7 @@
 #[cfg(not(all(target_arch = "x86_64", target_os = "linux")))]
 compile_error!("the archive is for x86-64 Linux");
 
+mod bad_row;
 mod block;
 pub mod blocks;
 pub mod constraints;
@@ -52,6 +55,7 @@ pub mod slab;
 pub mod sys;
 pub mod tuples;
 
+pub use bad_row::{BadRow, Part};
 pub use block::Block;
 pub use blocks::Verdict;
 pub use parameters::{Row, Tables};

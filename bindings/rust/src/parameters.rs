@@ -2,7 +2,7 @@
 //!
 //! The proved calls carry neither; they hold for every row that keeps its rules and for any tables. This crate carries the published ones as
 //! data: [`Row::published`], [`Tables::published`].
-use crate::refusal::{Refusal, values};
+use crate::refusal::{Refusal, judged};
 use crate::sys;
 
 /// The 477 rows of RFC 6330, Table 2, by rising K': K', J, S, H, W.
@@ -54,10 +54,32 @@ pub struct Row {
 }
 
 impl Row {
-    /// The record of the row K', J, S, H, W. Refused: 4 where it breaks a rule.
+    /// The record of the row K', J, S, H, W. Refused: 4 where it breaks a rule, with the first that it breaks.
+    ///
+    /// ```
+    /// let refusal = spoonripple::Row::new([10, 254, 7, 10, 16]).unwrap_err();
+    /// assert_eq!((refusal.number(), refusal.part()), (4, Some(spoonripple::Part::W)));
+    /// assert_eq!(refusal.to_string(), "refused 4, part 5: W is 16, and must be a prime");
+    /// ```
     pub fn new([k, j, s, h, w]: [u32; 5]) -> Result<Row, Refusal> {
-        let record = values(|out, room| unsafe { sys::spoonripple_row_check(k, j, s, h, w, out, room) })?;
+        let mut record = [0; 9];
+        judged(unsafe { sys::spoonripple_row_check(k, j, s, h, w, record.as_mut_ptr(), record.len()) }, [k, j, s, h, w, 0, 0, 0, 0])?;
         Ok(Row { numbers: record.map(|x| x as u32) })
+    }
+
+    /// The record whose nine numbers are given, K', J, S, H, W, L, P, B, P1, as in a parameter file. Refused: 4 where the five break a rule, with the first
+    /// that they break, or where one of the other four is not what the check makes of them. So a typing error is found in each of the nine; in J only from
+    /// 65,536 on, since nothing follows from it.
+    ///
+    /// ```
+    /// let refusal = spoonripple::Row::from_numbers([10, 254, 7, 11, 17, 27, 10, 10, 11]).unwrap_err();
+    /// assert_eq!(refusal.to_string(), "refused 4, part 10: L is 27, and must be K' + S + H = 28");
+    /// ```
+    pub fn from_numbers(numbers: [u32; 9]) -> Result<Row, Refusal> {
+        let ([k, j, s, h, w, l, p, b, p1], mut out) = (numbers, [0]);
+        // A call that takes a record verifies it, and this one then refuses nothing: count 1 and ESI 0 are in every block.
+        judged(unsafe { sys::spoonripple_isi(k, j, s, h, w, l, p, b, p1, 1, 0, out.as_mut_ptr(), out.len()) }, numbers)?;
+        Row::new([k, j, s, h, w])
     }
 
     /// The published row for a block of `count` source symbols: the one with the smallest K' that is not below. Refused: 9 where count is not

@@ -1,66 +1,93 @@
-//! Why a call refuses, and how its number becomes a `Result`.
+//! Why a call refuses, and how its result becomes a `Result`.
+use crate::bad_row::{BadRow, Part};
 use std::fmt;
 
 /// Why a call was refused. A call that refuses has changed no byte that it was lent.
 ///
 /// The numbers and what they mean are those of the table 'Refusal numbers' in `docs/01-scope.md`. Where several apply, the one that comes first in
 /// 4, 5, 2, 9, 10, 8, 6, 7, 3, 1 is given. More numbers can come with more calls, so a `match` has an arm for the rest.
+///
+/// Refusal 4 has a part besides: which rule of the row breaks first.
 #[derive(Clone, Copy, Debug, PartialEq, Eq, Hash)]
 #[non_exhaustive]
-#[repr(u32)]
 pub enum Refusal {
     /// 1: an octet is divided by 0.
-    DivisorZero = 1,
+    DivisorZero,
     /// 2: a number is outside its range.
-    OutOfRange = 2,
+    OutOfRange,
     /// 3: transmission information breaks its rules.
-    BadTransmission = 3,
-    /// 4: the parameter row breaks its rules.
-    BadRow = 4,
+    BadTransmission,
+    /// 4: the parameter row breaks its rules, or L, P, B or P1 is not that of the row; with the first rule that breaks, and the numbers.
+    BadRow(BadRow),
     /// 5: the random tables are not 1,024 numbers.
-    BadTables = 5,
+    BadTables,
     /// 6: a row, column, range or symbol lies outside, or a resize would grow.
-    Outside = 6,
+    Outside,
     /// 7: destination and source are one row, or one physical symbol.
-    SamePlace = 7,
+    SamePlace,
     /// 8: a lent part is too short, or not of its exact length where one is named.
-    WrongLength = 8,
+    WrongLength,
     /// 9: an ESI of 2^24 or more, a source count K not in 1..K', more than 65,535 ids or arrivals, or too few ids for a builder.
-    BadCount = 9,
+    BadCount,
     /// 10: symbol size 0, or symbols that are not T octets each.
-    BadSize = 10,
+    BadSize,
 }
 
 impl Refusal {
     /// The number in `docs/01-scope.md`.
     pub fn number(self) -> u32 {
-        self as u32
+        match self {
+            Refusal::DivisorZero => 1,
+            Refusal::OutOfRange => 2,
+            Refusal::BadTransmission => 3,
+            Refusal::BadRow(_) => 4,
+            Refusal::BadTables => 5,
+            Refusal::Outside => 6,
+            Refusal::SamePlace => 7,
+            Refusal::WrongLength => 8,
+            Refusal::BadCount => 9,
+            Refusal::BadSize => 10,
+        }
     }
 
-    /// The refusal with this number.
-    pub fn of(number: u32) -> Option<Refusal> {
-        Some(match number {
-            1 => Refusal::DivisorZero,
-            2 => Refusal::OutOfRange,
-            3 => Refusal::BadTransmission,
-            4 => Refusal::BadRow,
-            5 => Refusal::BadTables,
-            6 => Refusal::Outside,
-            7 => Refusal::SamePlace,
-            8 => Refusal::WrongLength,
-            9 => Refusal::BadCount,
-            10 => Refusal::BadSize,
+    /// Of a refused row, which rule breaks first.
+    pub fn part(self) -> Option<Part> {
+        match self {
+            Refusal::BadRow(row) => Some(row.part),
+            _ => None,
+        }
+    }
+
+    /// The result of the call in C: the number, and 256 times that of the part.
+    pub fn code(self) -> u32 {
+        self.number() + 256 * self.part().map_or(0, Part::number)
+    }
+
+    /// The refusal with this code, of a call that was given this row; all but 4 leave the row aside. `None` of a code that no call answers: 4 without its
+    /// part, any other number with one.
+    pub fn of(code: u32, row: [u32; 9]) -> Option<Refusal> {
+        Some(match (code % 256, code / 256) {
+            (1, 0) => Refusal::DivisorZero,
+            (2, 0) => Refusal::OutOfRange,
+            (3, 0) => Refusal::BadTransmission,
+            (4, part) => Refusal::BadRow(BadRow { part: Part::of(part)?, numbers: row }),
+            (5, 0) => Refusal::BadTables,
+            (6, 0) => Refusal::Outside,
+            (7, 0) => Refusal::SamePlace,
+            (8, 0) => Refusal::WrongLength,
+            (9, 0) => Refusal::BadCount,
+            (10, 0) => Refusal::BadSize,
             _ => return None,
         })
     }
 
-    /// What it means, in words that can stand in a log.
+    /// What it means, in words that can stand in a log. Of a refused row `Display` has the numbers too.
     pub fn meaning(self) -> &'static str {
         match self {
             Refusal::DivisorZero => "an octet is divided by 0",
             Refusal::OutOfRange => "a number is outside its range",
             Refusal::BadTransmission => "the transmission information breaks its rules",
-            Refusal::BadRow => "the parameter row breaks its rules",
+            Refusal::BadRow(row) => row.part.meaning(),
             Refusal::BadTables => "the random tables are not 1,024 numbers",
             Refusal::Outside => "a row, column, range or symbol lies outside, or a resize would grow",
             Refusal::SamePlace => "destination and source are one row, or one physical symbol",
@@ -73,18 +100,31 @@ impl Refusal {
 
 impl fmt::Display for Refusal {
     fn fmt(&self, f: &mut fmt::Formatter) -> fmt::Result {
-        write!(f, "refused {}: {}", self.number(), self.meaning())
+        match self {
+            Refusal::BadRow(row) => write!(f, "refused {}, part {}: {row}", self.number(), row.part.number()),
+            _ => write!(f, "refused {}: {}", self.number(), self.meaning()),
+        }
     }
 }
 
 impl std::error::Error for Refusal {}
 
-/// What a call's number stands for. The archive gives no other: that is proved of it, and a number beyond is a fault of how it was linked.
+/// What the result of a call stands for that was given a row. The archive gives no other: that is proved of it.
+pub(crate) fn judged(code: u32, row: [u32; 9]) -> Result<(), Refusal> {
+    match code {
+        0 => Ok(()),
+        _ => Err(Refusal::of(code, row).unwrap_or_else(|| panic!("the archive answered {code}, which spoonripple.h does not name: it is of another version"))),
+    }
+}
+
+/// What the result of any other call stands for. A row is not refused here: a [`Row`](crate::Row) comes from the check, so that 4 is a fault of how the
+/// archive was linked.
 #[inline]
 pub(crate) fn done(code: u32) -> Result<(), Refusal> {
     match code {
         0 => Ok(()),
-        n => Err(Refusal::of(n).unwrap_or_else(|| panic!("the archive answered {n}, which spoonripple.h does not name"))),
+        _ if code % 256 == 4 => panic!("the archive answered {code}: it refuses a row that its own check made, so more than one version of it is linked"),
+        _ => judged(code, [0; 9]),
     }
 }
 
@@ -93,4 +133,23 @@ pub(crate) fn done(code: u32) -> Result<(), Refusal> {
 pub(crate) fn values<const N: usize>(call: impl FnOnce(*mut u64, usize) -> u32) -> Result<[u64; N], Refusal> {
     let mut out = [0; N];
     done(call(out.as_mut_ptr(), N)).map(|()| out)
+}
+
+#[cfg(test)]
+mod tests {
+    use super::*;
+
+    /// No call of the right archive comes to these.
+    #[test]
+    fn an_archive_that_is_not_the_right_one_is_told() {
+        let told = |call: fn() -> Result<(), Refusal>| *std::panic::catch_unwind(call).unwrap_err().downcast::<String>().unwrap();
+        for call in [|| done(260), || done(2564), || done(4)] {
+            assert!(told(call).contains("it refuses a row that its own check made"));
+        }
+        // 4 without a part, as before parts were; a part that is none; another number with a part.
+        for call in [|| judged(4, [0; 9]), || judged(2820, [0; 9]), || judged(264, [0; 9]), || done(264), || done(11)] {
+            assert!(told(call).contains("which spoonripple.h does not name"));
+        }
+        assert_eq!((done(0), judged(0, [0; 9]), done(8)), (Ok(()), Ok(()), Err(Refusal::WrongLength)));
+    }
 }

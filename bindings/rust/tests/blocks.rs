@@ -77,7 +77,7 @@ fn solve_refuses_and_leaves_the_stores() {
     for (damage, number) in damages {
         let mut call = call();
         damage(&mut call);
-        assert_eq!(call.solve().err(), Refusal::of(number));
+        assert_eq!(call.solve().map_err(Refusal::code), Err(number));
         assert!(call.stores.iter().flatten().all(|x| *x == 0xA5));
     }
     let [rows, values, out] = &mut call().stores;
@@ -92,7 +92,7 @@ fn encode_refuses_and_leaves_the_store() {
     assert_eq!(encode(row, tables, K, T, 3, &set, &mut symbol), Ok(()));
     assert_eq!((&symbol[..6], &symbol[6..]), (&sender().data[18..24], &[9, 9][..]));
     let before = symbol;
-    let refused = |call: Result<(), Refusal>, number| assert_eq!(call.err(), Refusal::of(number));
+    let refused = |call: Result<(), Refusal>, number| assert_eq!(call.map_err(Refusal::code), Err(number));
     refused(encode(row, tables, 0, T, 1, &set, &mut symbol), 9);
     refused(encode(row, tables, K, T, 1 << 24, &set, &mut symbol), 9);
     refused(encode(row, tables, K, 0, 1, &set, &mut symbol), 10);
@@ -108,7 +108,7 @@ fn display_takes_the_first_arrival_or_what_was_rebuilt() {
     assert_eq!(display(arrivals, &rebuilt, 0), Ok(Shown::Arrived(&[5, 6])));
     assert_eq!(display(arrivals, &rebuilt, 2), Ok(Shown::Arrived(&[3, 4])));
     assert_eq!(display(arrivals, &rebuilt, 3), Ok(Shown::Rebuilt(&[16, 17])));
-    let refused = |arrivals, rebuilt, i, number| assert_eq!(display(arrivals, rebuilt, i).err(), Refusal::of(number));
+    let refused = |arrivals, rebuilt, i, number| assert_eq!(display(arrivals, rebuilt, i).map_err(Refusal::code), Err(number));
     refused(arrivals, &rebuilt, 4, 6);
     refused(arrivals, &rebuilt[1..], 4, 8);
     refused(Arrivals { t: 0, ..arrivals }, &rebuilt, 0, 10);

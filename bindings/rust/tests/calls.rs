@@ -5,7 +5,8 @@ use spoonripple::headers::{ObjectTransmissionInformation, Parts, PayloadId, part
 use spoonripple::matrix::Shape;
 use spoonripple::slab::Slab;
 use spoonripple::tuples::{Isi, Tuple, deg, isi, rand, tuple};
-use spoonripple::{Refusal, Row, Tables, Verdict, constraints, matrix, octets, slab};
+use spoonripple::{BadRow, Part, Refusal, Row, Tables, Verdict, constraints, matrix, octets, slab};
+use std::collections::BTreeSet;
 
 /// Bytes that look like no pattern.
 fn bytes(n: usize) -> Vec<u8> {
@@ -21,9 +22,28 @@ fn refusals_are_those_of_document_01() {
     let (_, table) = include_str!("../../../docs/01-scope.md").split_once("| No. |").unwrap();
     let rows = table.lines().skip(2).take_while(|line| line.starts_with('|'));
     let numbers: Vec<u32> = rows.map(|row| row.split('|').nth(1).unwrap().trim().parse().unwrap()).collect();
-    let named: Vec<u32> = (0..1000).filter(|n| Refusal::of(*n).is_some_and(|refusal| refusal.number() == *n && !refusal.meaning().is_empty())).collect();
-    assert_eq!((&named, (0..1000).filter_map(Refusal::of).count()), (&numbers, numbers.len()));
-    assert_eq!(Refusal::BadRow.to_string(), "refused 4: the parameter row breaks its rules");
+    // Each number is a code, but 4, which has its ten parts above it.
+    let plain = numbers.iter().copied().filter(|n| *n != 4);
+    let codes: BTreeSet<u32> = plain.chain((1..=10).map(|part| 4 + 256 * part)).collect();
+    let named: BTreeSet<u32> = (0..=u16::MAX.into()).filter(|code| Refusal::of(*code, [7; 9]).is_some()).collect();
+    assert_eq!((&named, codes.len()), (&codes, numbers.len() + 9));
+    // No bit above is left aside.
+    assert!(codes.iter().all(|code| (16..32).all(|bit| Refusal::of(code | 1 << bit, [7; 9]).is_none())));
+    for code in codes {
+        let refusal = Refusal::of(code, [7; 9]).unwrap();
+        assert_eq!((refusal.code(), refusal.number(), refusal.part()), (code, code % 256, Part::of(code / 256)));
+        assert!(!refusal.meaning().is_empty());
+    }
+    assert_eq!(Refusal::BadSize.to_string(), "refused 10: the symbol size is 0, or a symbol is not of that size");
+}
+
+#[test]
+fn parts_are_those_of_document_02() {
+    use Part::*;
+    let parts = [Wide, Kp, S, H, W, B, P, Ldpc, L, Derived];
+    assert_eq!(parts.map(Part::number), [1, 2, 3, 4, 5, 6, 7, 8, 9, 10]);
+    assert_eq!((0..=256).chain([1 << 16, u32::MAX]).filter_map(Part::of).collect::<Vec<_>>(), parts);
+    assert_eq!(parts.map(Part::meaning).into_iter().collect::<BTreeSet<_>>().len(), 10);
 }
 
 /// More refusals can come: without that the last arm could not be reached, and this would not compile.
@@ -32,7 +52,7 @@ fn refusals_are_those_of_document_01() {
 fn refusals_are_not_exhaustive() {
     use Refusal::*;
     let number = |refusal| match refusal {
-        DivisorZero | OutOfRange | BadTransmission | BadRow | BadTables | Outside | SamePlace | WrongLength | BadCount | BadSize => 1,
+        DivisorZero | OutOfRange | BadTransmission | BadRow(_) | BadTables | Outside | SamePlace | WrongLength | BadCount | BadSize => 1,
         _ => 0,
     };
     assert_eq!(number(BadSize), 1);
@@ -154,8 +174,19 @@ fn rows_and_tables_are_checked() {
     let other = Row::published(114).unwrap();
     assert_eq!(other.numbers(), [114, 5, 19, 10, 127, 143, 16, 108, 17]);
     assert_eq!([other.k_prime(), other.l(), other.p(), other.b(), other.p1()], [114, 143, 16, 108, 17]);
-    for bad in [[0, 254, 7, 10, 17], [10, 65536, 7, 10, 17], [10, 254, 8, 10, 17], [10, 254, 7, 1, 17], [10, 254, 7, 10, 18], [10, 254, 7, 10, 29]] {
-        assert_eq!(Row::new(bad), Err(Refusal::BadRow), "{bad:?}");
+    assert_eq!(Row::from_numbers(other.numbers()), Ok(other));
+    for (bad, part) in [
+        ([10, 65536, 7, 10, 17], Part::Wide),
+        ([0, 254, 7, 10, 17], Part::Kp),
+        ([10, 254, 8, 10, 17], Part::S),
+        ([10, 254, 7, 1, 17], Part::H),
+        ([10, 254, 7, 10, 18], Part::W),
+        ([10, 254, 7, 10, 29], Part::P),
+    ] {
+        let [k, j, s, h, w] = bad;
+        assert_eq!(Row::new(bad), Err(Refusal::BadRow(BadRow { part, numbers: [k, j, s, h, w, 0, 0, 0, 0] })));
+        let numbers = [k, j, s, h, w, 27, 10, 10, 11];
+        assert_eq!(Row::from_numbers(numbers), Err(Refusal::BadRow(BadRow { part, numbers })));
     }
     let own: Vec<u32> = (0..1024).collect();
     assert_eq!(Tables::new(&own).map(|t| t.numbers()[1023]), Ok(1023));

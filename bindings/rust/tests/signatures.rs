@@ -1,5 +1,7 @@
-//! The signatures stand three times: in the Rattle source, in include/spoonripple.h and in src/sys.rs. They are the same, names and types.
+//! The signatures stand three times: in the Rattle source, in include/spoonripple.h and in src/sys.rs. They are the same, names and types. So do the numbers
+//! of the refusals and their parts, which are those of src/refusal.rs and src/bad_row.rs.
 #![forbid(unsafe_code)]
+use spoonripple::{Part, Refusal};
 use std::collections::BTreeSet;
 use std::fs;
 use std::path::Path;
@@ -58,4 +60,42 @@ fn header_and_declarations_are_those_of_the_source() {
     assert!(source.len() >= 44, "the source has {} calls", source.len());
     assert_eq!(signatures(&read("include/spoonripple.h"), "\nuint32_t ", of_c), source);
     assert_eq!(signatures(&read("bindings/rust/src/sys.rs"), "    pub fn ", |p| vec![p.to_string()]), source);
+}
+
+/// Names with their numbers, by rising number.
+type Numbered = Vec<(u32, String)>;
+
+/// The arms `KIND::Name => number,` of a function in a Rattle source, what the name holds left out.
+fn arms(source: &str, function: &str, kind: &str) -> Numbered {
+    let (_, rest) = source.split_once(&format!("\npub fn {function}(")).unwrap();
+    let arms = rest.split("\n}\n").next().unwrap().lines().filter_map(|line| line.trim().strip_prefix(kind)?.split_once(" => "));
+    let mut all: Numbered = arms.map(|(name, n)| (n.trim_end_matches(',').parse().unwrap(), name.split('(').next().unwrap().to_string())).collect();
+    all.sort();
+    all
+}
+
+/// `#define SPOONRIPPLE_BAD_ROW 4` is BadRow.
+fn defines(header: &str, head: &str) -> Numbered {
+    let lines = header.lines().filter_map(|line| line.strip_prefix("#define SPOONRIPPLE_")?.strip_prefix(head)?.split_once(' '));
+    let camel = |word: &str| format!("{}{}", &word[..1], word[1..].to_lowercase());
+    let mut all: Numbered = lines.filter_map(|(name, n)| Some((n.parse().ok()?, name.split('_').map(camel).collect()))).collect();
+    all.sort();
+    all
+}
+
+#[test]
+fn numbers_and_parts_have_one_name() {
+    let root = Path::new(env!("CARGO_MANIFEST_DIR")).join("../..");
+    let [source, header] = ["crates/field/src/refusal.rt", "include/spoonripple.h"].map(|path| fs::read_to_string(root.join(path)).unwrap());
+    let named = |name: &dyn Fn(u32) -> Option<String>| (0..256).filter_map(|n| Some((n, name(n)?))).collect::<Numbered>();
+    let parts = named(&|n| Part::of(n).map(|part| format!("{part:?}")));
+    assert_eq!((&arms(&source, "place", "Part::"), &defines(&header, "PART_")), (&parts, &parts));
+    // What a variant holds is no part of its name. A refused row has the first part here.
+    let variant = |refusal: Refusal| format!("{refusal:?}").split('(').next().unwrap().to_string();
+    let numbers = named(&|n| Refusal::of(if n == 4 { 260 } else { n }, [0; 9]).map(variant));
+    assert_eq!(arms(&source, "number", "Refusal::"), numbers);
+    let besides = [(0, "Done"), (100, "Contradiction"), (101, "Open")].map(|(n, name)| (n, name.to_string()));
+    let refusals = defines(&header, "").into_iter().filter(|(_, name)| !name.starts_with("Part"));
+    let (answers, refusals): (Numbered, Numbered) = refusals.partition(|answer| besides.contains(answer));
+    assert_eq!((answers, refusals), (besides.to_vec(), numbers));
 }

@@ -32,6 +32,25 @@ impl Random {
     }
 }
 
+/// The part of the first rule that a row breaks, 0 where it keeps all: document 01's rules in plain Rust. Where L, P, B, P1 are given they have to follow.
+#[rustfmt::skip]
+pub fn part_due(five: [u32; 5], derived: Option<[u32; 4]>) -> u32 {
+    let prime = |x: i64| x > 1 && (2..).take_while(|d| d * d <= x).all(|d| x % d != 0);
+    let [k, _, s, h, w] = five.map(i64::from);
+    let (l, p, b) = (k + s + h, k + s + h - w, w - s);
+    if five.iter().any(|x| *x > 65535) { return 1; }
+    if !(1..=56403).contains(&k) { return 2; }
+    if s < 3 || s % 2 == 0 { return 3; }
+    if !(2..=255).contains(&h) { return 4; }
+    if !prime(w) { return 5; }
+    if b < 1 { return 6; }
+    if p < 3 { return 7; }
+    if (b + s - 1) / s >= s { return 8; }
+    if l > 65535 { return 9; }
+    let p1 = (p..).find(|x| prime(*x)).unwrap();
+    if derived.is_some_and(|numbers| numbers.map(i64::from) != [l, p, b, p1]) { 10 } else { 0 }
+}
+
 /// An ESI and its symbol.
 pub type Packet = (u32, Vec<u8>);
 
