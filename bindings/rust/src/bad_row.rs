@@ -58,8 +58,8 @@ impl Part {
     }
 }
 
-/// A refused row. In words it is which number is wrong, what it was and what the rule asks; after [`Refusal`](crate::Refusal)'s `refused 4, part 5: ` say
-/// `W is 16, and must be a prime`.
+/// A refused row. In words: which number is wrong, what it was and what the rule asks, say `W is 16, and must be a prime`; a [`Refusal`](crate::Refusal)
+/// puts `refused 4, part 5: ` before it.
 #[derive(Clone, Copy, Debug, PartialEq, Eq, Hash)]
 pub struct BadRow {
     /// The first rule that breaks.
