@@ -1,7 +1,7 @@
 -- Lines follow each other, and `io`'s digits are those of the definition.
 -- Assumes nothing.
 use mathlib.Core.Path.{_≡_, refl, sym, ap, ap₂, _∙_, subst}
-use mathlib.Core.List.{List, [], _∷_, _++_}
+use mathlib.Core.List.{List, [], _∷_, _++_, append-assoc}
 use Prim.Native.Nat.{ℕ, zero, suc, _+_, _-_, _*_, _/_, _%_, _^_, _≤_, _<_, min}
 use native.Mathlib.Nat.{pow-le-pow-right, pow-suc, one-le-pow, mod-eq-of-lt, div-lt-iff-lt-mul, le-div-iff-mul-le}
 use native.Mathlib.Numerals.{unary-clauses}
@@ -61,26 +61,6 @@ fewest-20 k x f h = go (decLt 20 k)
         absurd (omega (arith, f .2 (omega arith), pow-le-pow-right {n = 10} (omega arith) m))
     go (no l) = omega arith
 
--- a label, the digits that `io` spelled, and a line feed
-module _ (label ds : List ℕ) (x k : ℕ) {xs ys zs ws : List ℕ} {at : ℕ} where
-  pub line-laid : x < 2 ^ 64 → Fewest 10 1 x k → take k ds ≡ digits 10 k x → k ≡ length (take k ds) → Laid label xs ys at
-      → Laid (take k ds) ys zs (at + length label)
-      → Laid (10 ∷ []) zs ws (at + length label + k)
-      → Lined (line label x) (length label + 21) xs ws at (at + length label + k + 1)
-  line-laid h f e n u v w =
-      let b : k ≤ 20 = fewest-20 k x f h in
-      let q : take k ds ≡ spelled 20 x = e ∙ spelled-fewest 20 k x f b in
-      let l : k ≡ length (spelled 20 x) = n ∙ ap length q in
-      let v₁ : Laid (spelled 20 x) ys zs (at + length label) = subst (λ (bs : List ℕ). Laid bs ys zs (at + length label)) q v in
-      let r : length (label ++ (spelled 20 x ++ (10 ∷ []))) ≡ length label + (length (spelled 20 x) + 1) =
-      length-append label (spelled 20 x ++ (10 ∷ [])) ∙ ap (λ (y : ℕ). length label + y) (length-append (spelled 20 x) (10 ∷ []))
-      in
-      record {
-        laid = laid-append label (spelled 20 x ++ (10 ∷ [])) u refl (laid-append (spelled 20 x) (10 ∷ []) v₁ (ap (λ (y : ℕ). at + length label + y) l) w);
-        ends = omega (arith, r, l);
-        short = omega (arith, r, l);
-      }
-
 -- another name for the text
 pub lined-is : {bs cs : List ℕ} {m : ℕ} {xs ys : List ℕ} {at to : ℕ} → Lined bs m xs ys at to → bs ≡ cs → Lined cs m xs ys at to
 lined-is {bs} {cs} {m} {xs} {ys} {at} {to} u e = subst (λ (ds : List ℕ). Lined ds m xs ys at to) e u
@@ -88,6 +68,32 @@ lined-is {bs} {cs} {m} {xs} {ys} {at} {to} u e = subst (λ (ds : List ℕ). Line
 -- a larger bound
 pub lined-most : {bs : List ℕ} {m n : ℕ} {xs ys : List ℕ} {at to : ℕ} → Lined bs m xs ys at to → m ≤ n → Lined bs n xs ys at to
 lined-most u h = record { laid = u .laid; ends = u .ends; short = omega (arith, u .short) }
+
+-- a text of two parts goes on
+module _ (ws cs bs : List ℕ) {m n : ℕ} {xs ys zs : List ℕ} {at to next : ℕ} where
+  pub lined-on : Lined (ws ++ cs) m xs ys at to → Lined bs n ys zs to next → Lined (ws ++ (cs ++ bs)) (m + n) xs zs at next
+  lined-on u w = lined-is (lined-append (ws ++ cs) bs u w) (append-assoc ws cs bs)
+
+-- a label, and the digits that `io` spelled
+module _ (label ds : List ℕ) (x k : ℕ) {xs ys zs : List ℕ} {at : ℕ} where
+  pub numbered-laid : x < 2 ^ 64 → Fewest 10 1 x k → take k ds ≡ digits 10 k x → k ≡ length (take k ds) → Laid label xs ys at
+      → Laid (take k ds) ys zs (at + length label)
+      → Lined (label ++ spelled 20 x) (length label + 20) xs zs at (at + length label + k)
+  numbered-laid h f e n u v =
+      let b : k ≤ 20 = fewest-20 k x f h in
+      let q : take k ds ≡ spelled 20 x = e ∙ spelled-fewest 20 k x f b in
+      let l : k ≡ length (spelled 20 x) = n ∙ ap length q in
+      let v₁ : Laid (spelled 20 x) ys zs (at + length label) = subst (λ (bs : List ℕ). Laid bs ys zs (at + length label)) q v in
+      let r : length (label ++ spelled 20 x) ≡ length label + length (spelled 20 x) = length-append label (spelled 20 x) in
+      record { laid = laid-append label (spelled 20 x) u refl v₁; ends = omega (arith, r, l); short = omega (arith, r, l) }
+
+-- and with a line feed
+module _ (label : List ℕ) (x : ℕ) {xs ys zs : List ℕ} {at to : ℕ} where
+  pub line-lined : Lined (label ++ spelled 20 x) (length label + 20) xs ys at to → Laid (10 ∷ []) ys zs to
+      → Lined (line label x) (length label + 21) xs zs at (to + 1)
+  line-lined u w =
+      let v : Lined (10 ∷ []) 1 ys zs to (to + 1) = record { laid = w; ends = refl; short = omega arith } in
+      lined-most (lined-on label (spelled 20 x) (10 ∷ []) u v) (omega arith)
 
 -- the place where a text from the front ends counts its bytes
 pub lined-counts : {bs : List ℕ} {m : ℕ} {xs ys : List ℕ} {to : ℕ} → Lined bs m xs ys 0 to → m ≤ length xs → Counts to ys

@@ -1,12 +1,13 @@
 // Lines of text in a lent store. Each function answers where its lines end, and asks for the room that the longest take: a line is its
 // label, at most 20 digits and a line feed.
 ghost use mathlib.Core.Path.{_≡_};
+ghost use mathlib.Core.List.{_++_};
 ghost use Prim.Native.Nat.{_+_, _≤_, min};
 ghost use lib.ListN.{length};
 ghost use Rattle.field.specs.Answer.{codeOf, done, given, numberIn};
 ghost use Rattle.io.specs.Counts.{Counts};
 ghost use Rattle.headers.specs.Headers.{readId};
-ghost use Rattle.header_text.specs.Text.{Lined, idLines, infoLines, line, refusedLine, textOf, told, verdictLine};
+ghost use Rattle.header_text.specs.Text.{Lined, idLines, infoLines, line, refusedLine, spelled, textOf, told, verdictLine};
 use field::refusal;
 use field::refusal::Refusal;
 use headers::beneath::big_endian;
@@ -99,12 +100,20 @@ pub fn number_line(out: &mut [u8], at: usize, label: &[u8], x: u64) -> usize
     requires { ⌜ at + (length (now label) + 21) ≤ length (now out) ⌝ }
     ensures { λ r. ⌜ Lined (line (now (label .entry)) x) (length (now (label .entry)) + 21) (now (out .entry)) (now (out .exit)) at r ⌝ }
 {
+    let end = numbered(out, at, label, x);
+    big_endian::copy(out, end, b"\n");
+    end + 1
+}
+
+// The label and the number in decimal.
+pub fn numbered(out: &mut [u8], at: usize, label: &[u8], x: u64) -> usize
+    requires { ⌜ at + (length (now label) + 20) ≤ length (now out) ⌝ }
+    ensures { λ r. ⌜ Lined (now (label .entry) ++ spelled 20 x) (length (now (label .entry)) + 20) (now (out .entry)) (now (out .exit)) at r ⌝ }
+{
     let mut digits = [0u8; 20];
     let k = io::decimal(x, &mut digits);
     big_endian::copy(out, at, label);
     let middle = at + label.len();
     big_endian::copy(out, middle, &digits[..k]);
-    let end = middle + k;
-    big_endian::copy(out, end, b"\n");
-    end + 1
+    middle + k
 }

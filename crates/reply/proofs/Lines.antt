@@ -12,7 +12,8 @@ use Rattle.headers.specs.Bytes.{Laid}
 use Rattle.headers.proofs.Bytes.{laid-append, laid-front}
 use Rattle.header_text.specs.Text.{spelled}
 use Rattle.header_text.proofs.Lines.{spelled-fewest, fewest-20}
-use Rattle.reply.specs.Words.{Line, ascii, openWords}
+use Rattle.reply.specs.Ascii.{ascii}
+use Rattle.reply.specs.Words.{Line, openWords}
 
 pub counts : {n : ℕ} (ys : List ℕ) → n ≤ length ys → Counts n ys
 counts {n} ys h = (h, sym (length-take-le n ys h))

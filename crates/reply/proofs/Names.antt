@@ -17,7 +17,8 @@ use Rattle.headers.specs.Bytes.{Laid}
 use Rattle.headers.proofs.Bytes.{laid-append}
 use Rattle.header_text.specs.Text.{spelled}
 use Rattle.header_text.proofs.Lines.{spelled-fewest, fewest-20}
-use Rattle.reply.specs.Words.{Line, ascii}
+use Rattle.reply.specs.Ascii.{ascii}
+use Rattle.reply.specs.Words.{Line}
 use Rattle.reply.specs.Names.{Beside, LastPart, besideOf}
 
 -- a path has one last part

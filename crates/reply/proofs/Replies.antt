@@ -1,6 +1,6 @@
 -- There is one reply to a delivery, and one content of each stream; what is written stands in the store.
 -- Assumes nothing.
-use mathlib.Core.Path.{_≡_, refl, sym, ap, ap₂, _∙_, subst}
+use mathlib.Core.Path.{_≡_, refl, sym, ap, _∙_, subst}
 use mathlib.Core.List.{List}
 use Prim.Native.Nat.{ℕ, _≤_}
 use native.Mathlib.Omega.{arith}
@@ -13,7 +13,10 @@ use Rattle.delivery.specs.Received.{Comes}
 use Rattle.delivery.specs.declared.beneath.receiver.Received.{Received}
 use Rattle.delivery.specs.declared.beneath.receiver.Received.the-variants.{Taken, Stopped}
 use Rattle.delivery.proofs.Outcomes.{comes-only, comes-once, object-once, object-in, object-fits}
-use Rattle.reply.specs.Words.{Line, ascii, openWords, stopWords}
+use Rattle.reply.specs.Ascii.{ascii}
+use Rattle.reply.specs.Rows.{typedIn}
+use Rattle.reply.specs.Words.{openWords, stopWords}
+use Rattle.reply.specs.declared.beneath.rows.Typed.{Typed}
 use Rattle.reply.specs.Replies.{InStore, InWords, Replied, Said, SaidOf, toError, toOutput}
 use Rattle.reply.specs.declared.beneath.replying.Reply.{Reply}
 use Rattle.reply.specs.declared.beneath.replying.Reply.the-variants.{Object, Words}
@@ -34,16 +37,16 @@ module _ (xs ys zs : List ℕ) (r s : Reply) where
   said-of-once Contradiction f a b = in-words-once (ascii "contradiction\n") xs ys zs r s a b
   said-of-once (Open n) f a b = in-words-once (openWords n) xs ys zs r s a b
 
-  said-once : (o : Received) → Said xs ys r o → Said xs zs s o → (r ≡ s) × (ys ≡ zs)
-  said-once (Taken v f) a b = said-of-once v f a b
-  said-once (Stopped why) a b = in-words-once (stopWords why) xs ys zs r s a b
+  said-once : (t : Typed) (o : Received) → Said t xs ys r o → Said t xs zs s o → (r ≡ s) × (ys ≡ zs)
+  said-once t (Taken v f) a b = said-of-once v f a b
+  said-once t (Stopped why) a b = in-words-once (stopWords t why) xs ys zs r s a b
 
 -- any two results that the contract allows are the same: the stream, the count and the store
 pub replied-once : {d xs ys zs : List ℕ} {r s : Reply} → Replied d xs ys r → Replied d xs zs s → (r ≡ s) × (ys ≡ zs)
 replied-once {d} {xs} {ys} {zs} {r} {s} a b =
     let e = comes-once d xs (a .store) (b .store) (a .what) (b .what) (a .comes) (b .comes) in
-    let u = subst (λ (o : Received). Said (b .store) zs s o) (sym (e .0)) (b .said) in
-    said-once (a .store) ys zs r s (a .what) (a .said) (subst (λ (m : List ℕ). Said m zs s (a .what)) (sym (e .1)) u)
+    let u = subst (λ (o : Received). Said (typedIn d) (b .store) zs s o) (sym (e .0)) (b .said) in
+    said-once (a .store) ys zs r s (typedIn d) (a .what) (a .said) (subst (λ (m : List ℕ). Said (typedIn d) m zs s (a .what)) (sym (e .1)) u)
 
 -- ---- the content of both streams, whatever the store held before
 
@@ -78,16 +81,16 @@ module _ (d xs us ys vs : List ℕ) (r s : Reply) (f : InStore r ys) (g : InStor
   same-said-of Contradiction n p q x y a b = same-words (ascii "contradiction\n") p ys q vs r s a b
   same-said-of (Open m) n p q x y a b = same-words (openWords m) p ys q vs r s a b
 
-  same-said : (o : Received) (p q : List ℕ) → Comes d xs p o → Comes d us q o → Said p ys r o → Said q vs s o → SameStreams r s ys vs
-  same-said (Taken v n) p q x y a b = same-said-of v n p q x y a b
-  same-said (Stopped why) p q x y a b = same-words (stopWords why) p ys q vs r s a b
+  same-said : (t : Typed) (o : Received) (p q : List ℕ) → Comes d xs p o → Comes d us q o → Said t p ys r o → Said t q vs s o → SameStreams r s ys vs
+  same-said t (Taken v n) p q x y a b = same-said-of v n p q x y a b
+  same-said t (Stopped why) p q x y a b = same-words (stopWords t why) p ys q vs r s a b
 
   -- of one delivery standard output gets the same bytes, and standard error the same words
   pub streams-once : Replied d xs ys r → Replied d us vs s → (toOutput r ys ≡ toOutput s vs) × (toError r ys ≡ toError s vs)
   streams-once a b =
       let e = comes-only d xs (a .store) us (b .store) (a .what) (b .what) (a .comes) (b .comes) in
-      same-said (a .what) (a .store) (b .store) (a .comes) (subst (Comes d us (b .store)) (sym e) (b .comes)) (a .said)
-      (subst (λ (o : Received). Said (b .store) vs s o) (sym e) (b .said))
+      same-said (typedIn d) (a .what) (a .store) (b .store) (a .comes) (subst (Comes d us (b .store)) (sym e) (b .comes)) (a .said)
+      (subst (λ (o : Received). Said (typedIn d) (b .store) vs s o) (sym e) (b .said))
 
 -- ---- what is written stands in the store
 
@@ -101,6 +104,6 @@ module _ (d xs zs ys : List ℕ) (r : Reply) (l : 307200 ≤ length zs) where
   verdict-front Contradiction n u w = words-front (ascii "contradiction\n") zs ys r w
   verdict-front (Open m) n u w = words-front (openWords m) zs ys r w
 
-  pub said-front : (o : Received) → Comes d xs zs o → Said zs ys r o → InStore r ys
-  said-front (Taken v n) u w = verdict-front v n u w
-  said-front (Stopped why) u w = words-front (stopWords why) zs ys r w
+  pub said-front : (t : Typed) (o : Received) → Comes d xs zs o → Said t zs ys r o → InStore r ys
+  said-front t (Taken v n) u w = verdict-front v n u w
+  said-front t (Stopped why) u w = words-front (stopWords t why) zs ys r w

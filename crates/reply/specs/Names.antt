@@ -5,7 +5,8 @@ use mathlib.Core.List.{List, _++_}
 use Prim.Native.Nat.{ℕ, _-_, _≤_, _<_}
 use lib.ListN.{length, getD, take, drop}
 use Rattle.header_text.specs.Text.{spelled}
-use Rattle.reply.specs.Words.{Line, ascii}
+use Rattle.reply.specs.Ascii.{ascii}
+use Rattle.reply.specs.Words.{Line}
 
 -- the last part of a path begins at k: there is no '/' from there on, and one just in front unless the path begins there
 pub record LastPart (path : List ℕ) (k : ℕ) : Type 0 where

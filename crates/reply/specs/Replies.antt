@@ -10,7 +10,10 @@ use Rattle.elimination.specs.declared.verdict.Verdict.the-variants.{Solved, Con
 use Rattle.delivery.specs.Received.{Comes}
 use Rattle.delivery.specs.declared.beneath.receiver.Received.{Received}
 use Rattle.delivery.specs.declared.beneath.receiver.Received.the-variants.{Taken, Stopped}
-use Rattle.reply.specs.Words.{Line, ascii, openWords, stopWords}
+use Rattle.reply.specs.Ascii.{ascii}
+use Rattle.reply.specs.Rows.{typedIn}
+use Rattle.reply.specs.Words.{Line, openWords, stopWords}
+use Rattle.reply.specs.declared.beneath.rows.Typed.{Typed}
 use Rattle.reply.specs.declared.beneath.replying.Reply.{Reply}
 use Rattle.reply.specs.declared.beneath.replying.Reply.the-variants.{Object, Words}
 
@@ -39,13 +42,14 @@ SaidOf f xs ys r Solved = (r ≡ Object f) × (ys ≡ xs)
 SaidOf f xs ys r Contradiction = InWords (ascii "contradiction\n") xs ys r
 SaidOf f xs ys r (Open s) = InWords (openWords s) xs ys r
 
-abbrev pub Said : (xs ys : List ℕ) → Reply → Received → Type 0
-Said xs ys r (Taken verdict f) = SaidOf f xs ys r verdict
-Said xs ys r (Stopped why) = InWords (stopWords why) xs ys r
+-- t: the numbers of the row
+abbrev pub Said : Typed → (xs ys : List ℕ) → Reply → Received → Type 0
+Said t xs ys r (Taken verdict f) = SaidOf f xs ys r verdict
+Said t xs ys r (Stopped why) = InWords (stopWords t why) xs ys r
 
 -- The contract: what comes of the delivery d, said.
 pub record Replied (d xs ys : List ℕ) (r : Reply) : Type 0 where
   pub what : Received
   pub store : List ℕ
   pub comes : Comes d xs store what
-  pub said : Said store ys r what
+  pub said : Said (typedIn d) store ys r what

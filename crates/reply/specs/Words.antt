@@ -2,10 +2,7 @@
 -- Assumes nothing.
 use mathlib.Core.Path.{_≡_}
 use mathlib.Core.List.{List, _++_}
-use mathlib.Core.List.{[] as none, _∷_ as next}
-use Prim.Native.Char.{code}
 use Prim.Native.Nat.{ℕ, _≤_}
-use Prim.Native.String.{String, [], _∷_}
 use lib.ListN.{length}
 use Rattle.headers.specs.Bytes.{Laid}
 use Rattle.header_text.specs.Text.{spelled}
@@ -13,15 +10,13 @@ use Rattle.field.specs.declared.refusal.Refusal.{Refusal}
 use Rattle.field.specs.declared.refusal.Refusal.the-variants as Why
 use Rattle.delivery.specs.declared.beneath.screen.Stop.{Stop}
 use Rattle.delivery.specs.declared.beneath.screen.Stop.the-variants as Stops
+use Rattle.reply.specs.Ascii.{ascii}
+use Rattle.reply.specs.Rows.{rowWords}
+use Rattle.reply.specs.declared.beneath.rows.Typed.{Typed}
 use Rattle.reply.specs.declared.beneath.arguments.Misuse.{Misuse}
 use Rattle.reply.specs.declared.beneath.arguments.Misuse.the-variants as Misuses
 use Rattle.reply.specs.declared.beneath.words.Failure.{Failure}
 use Rattle.reply.specs.declared.beneath.words.Failure.the-variants as Failures
-
--- a text in ASCII
-abbrev pub ascii : String → List ℕ
-ascii [] = none
-ascii (c ∷ s) = next (code c) (ascii s)
 
 -- a line at the front of a store
 pub record Line (words xs ys : List ℕ) (n : ℕ) : Type 0 where
@@ -29,23 +24,24 @@ pub record Line (words xs ys : List ℕ) (n : ℕ) : Type 0 where
   pub count : n ≡ length words
   pub room : length words ≤ length xs
 
-abbrev pub refusalWords : Refusal → List ℕ
-refusalWords Why.DivisorZero = ascii "refused 1: an octet is divided by 0\n"
-refusalWords Why.OutOfRange = ascii "refused 2: a number is outside its range\n"
-refusalWords Why.BadTransmission = ascii "refused 3: the transmission information breaks its rules\n"
-refusalWords Why.BadRow = ascii "refused 4: the parameter row breaks its rules\n"
-refusalWords Why.BadTables = ascii "refused 5: the random tables are not 1,024 numbers\n"
-refusalWords Why.Outside = ascii "refused 6: a place is outside\n"
-refusalWords Why.SamePlace = ascii "refused 7: destination and source are one\n"
-refusalWords Why.WrongLength = ascii "refused 8: the delivery ends in its first 32 bytes\n"
-refusalWords Why.BadCount = ascii "refused 9: the count of source symbols is not from 1 to K'\n"
-refusalWords Why.BadSize = ascii "refused 10: the symbol size is 0, or the last packet is not whole\n"
+-- t: the numbers of the row, for what is wrong with it
+abbrev pub refusalWords : Typed → Refusal → List ℕ
+refusalWords t Why.DivisorZero = ascii "refused 1: an octet is divided by 0\n"
+refusalWords t Why.OutOfRange = ascii "refused 2: a number is outside its range\n"
+refusalWords t Why.BadTransmission = ascii "refused 3: the transmission information breaks its rules\n"
+refusalWords t (Why.BadRow part) = rowWords part t
+refusalWords t Why.BadTables = ascii "refused 5: the random tables are not 1,024 numbers\n"
+refusalWords t Why.Outside = ascii "refused 6: a place is outside\n"
+refusalWords t Why.SamePlace = ascii "refused 7: destination and source are one\n"
+refusalWords t Why.WrongLength = ascii "refused 8: the delivery ends in its first 32 bytes\n"
+refusalWords t Why.BadCount = ascii "refused 9: the count of source symbols is not from 1 to K'\n"
+refusalWords t Why.BadSize = ascii "refused 10: the symbol size is 0, or the last packet is not whole\n"
 
-abbrev pub stopWords : Stop → List ℕ
-stopWords (Stops.Refused why) = refusalWords why
-stopWords Stops.TooLarge = ascii "too large for this program: T is at most 1,024, L at most 300, the equations at most 360\n"
-stopWords Stops.SeveralBlocks = ascii "several blocks: this program takes one source block of one sub-block\n"
-stopWords Stops.OtherBlock = ascii "another block: a packet has a block number other than 0\n"
+abbrev pub stopWords : Typed → Stop → List ℕ
+stopWords t (Stops.Refused why) = refusalWords t why
+stopWords t Stops.TooLarge = ascii "too large for this program: T is at most 1,024, L at most 300, the equations at most 360\n"
+stopWords t Stops.SeveralBlocks = ascii "several blocks: this program takes one source block of one sub-block\n"
+stopWords t Stops.OtherBlock = ascii "another block: a packet has a block number other than 0\n"
 
 abbrev pub openWords : ℕ → List ℕ
 openWords s = ascii "open, " ++ (spelled 20 s ++ ascii " more independent packets at least\n")

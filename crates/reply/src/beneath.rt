@@ -2,4 +2,5 @@
 pub mod arguments;
 pub mod names;
 pub mod replying;
+pub mod rows;
 pub mod words;

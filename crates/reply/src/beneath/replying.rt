@@ -2,6 +2,8 @@
 ghost use Prim.Native.Nat.{_≤_};
 ghost use lib.ListN.{length};
 ghost use Rattle.reply.specs.Replies.{InStore, Replied, Said, SaidOf};
+use crate::beneath::rows;
+use crate::beneath::rows::Typed;
 use crate::beneath::words;
 use delivery::beneath::receiver;
 use delivery::beneath::receiver::Received;
@@ -24,13 +26,14 @@ fn say_verdict(out: &mut [u8], v: Verdict, f: usize) -> Reply
     }
 }
 
-fn say(out: &mut [u8], what: Received) -> Reply
+// t: the numbers of the row, for what is wrong with it.
+fn say(out: &mut [u8], what: Received, t: Typed) -> Reply
     requires { ⌜ 200 ≤ length (now out) ⌝ }
-    ensures { λ r. ⌜ Said (now (out .entry)) (now (out .exit)) r what ⌝ }
+    ensures { λ r. ⌜ Said t (now (out .entry)) (now (out .exit)) r what ⌝ }
 {
     match what {
         Received::Taken(v, f) => say_verdict(out, v, f),
-        Received::Stopped(why) => Reply::Words(words::stopped(out, why)),
+        Received::Stopped(why) => Reply::Words(words::stopped(out, why, t)),
     }
 }
 
@@ -41,5 +44,6 @@ pub fn reply_to(bytes: &[u8], out: &mut [u8]) -> Reply
     ensures { λ r. ⌜ InStore r (now (out .exit)) ⌝ }
 {
     let what = receiver::receive(bytes, out);
-    say(out, what)
+    let t = rows::typed_in(bytes);
+    say(out, what, t)
 }

@@ -3,6 +3,8 @@ ghost use Prim.Native.Nat.{_≤_};
 ghost use lib.ListN.{length};
 ghost use Rattle.reply.specs.Words.{Line, failureWords, misuseWords, openWords, refusalWords, stopWords};
 use crate::beneath::arguments::Misuse;
+use crate::beneath::rows;
+use crate::beneath::rows::Typed;
 use delivery::beneath::screen::Stop;
 use field::refusal::Refusal;
 use headers::beneath::big_endian;
@@ -27,9 +29,10 @@ pub fn write_line(out: &mut [u8], words: &[u8]) -> usize
     words.len()
 }
 
-fn refused(out: &mut [u8], why: Refusal) -> usize
+// t: the numbers of the row, for what is wrong with it.
+fn refused(out: &mut [u8], why: Refusal, t: Typed) -> usize
     requires { ⌜ 200 ≤ length (now out) ⌝ }
-    ensures { λ r. ⌜ Line (refusalWords why) (now (out .entry)) (now (out .exit)) r ⌝ }
+    ensures { λ r. ⌜ Line (refusalWords t why) (now (out .entry)) (now (out .exit)) r ⌝ }
 {
     match why {
         Refusal::DivisorZero => write_line(out, b"refused 1: an octet is divided by 0\n"),
@@ -38,7 +41,7 @@ fn refused(out: &mut [u8], why: Refusal) -> usize
             out,
             b"refused 3: the transmission information breaks its rules\n",
         ),
-        Refusal::BadRow => write_line(out, b"refused 4: the parameter row breaks its rules\n"),
+        Refusal::BadRow(part) => rows::broken(out, part, t),
         Refusal::BadTables => write_line(
             out,
             b"refused 5: the random tables are not 1,024 numbers\n",
@@ -60,12 +63,12 @@ fn refused(out: &mut [u8], why: Refusal) -> usize
     }
 }
 
-pub fn stopped(out: &mut [u8], why: Stop) -> usize
+pub fn stopped(out: &mut [u8], why: Stop, t: Typed) -> usize
     requires { ⌜ 200 ≤ length (now out) ⌝ }
-    ensures { λ r. ⌜ Line (stopWords why) (now (out .entry)) (now (out .exit)) r ⌝ }
+    ensures { λ r. ⌜ Line (stopWords t why) (now (out .entry)) (now (out .exit)) r ⌝ }
 {
     match why {
-        Stop::Refused(w) => refused(out, w),
+        Stop::Refused(w) => refused(out, w, t),
         Stop::TooLarge => write_line(
             out,
             b"too large for this program: T is at most 1,024, L at most 300, the equations at most 360\n",

@@ -1,77 +1,31 @@
 -- `header_text::beneath::number_line` meets its contract.
 -- Assumes nothing.
-use native.Mathlib.Omega.{arith}
 use denote.Ref.{now}
-use Rattle.header_text.proofs.Lines.{line-laid, fewest-20}
+use Rattle.header_text.proofs.Lines.{line-lined}
 use borrow.Author.Needs.{needs}
 use Rattle.header_text.proofs.beneath.number_line.Statement.{statement}
 use Rattle.header_text.proofs.beneath.number_line.Tie as tie
 
-decimal-requires : tie.Need-decimal-requires
-decimal-requires c κs = search needs
-
-copy-requires : tie.Need-copy-requires
-copy-requires c κs = search needs
-
-add-middle : tie.Need-add-middle
-add-middle c = search needs
-
-array-share-prefix-digits : tie.Need-array-share-prefix-digits
-array-share-prefix-digits c = search needs
+numbered-requires : tie.Need-numbered-requires
+numbered-requires c κs = search needs
 
 slice-aggregate-copy : tie.Need-slice-aggregate-copy
 slice-aggregate-copy c = search needs
 
-copy-requires-2 : tie.Need-copy-requires-2
-copy-requires-2 c κs =
-    let start = c .before .before .before .before .before .before .before .before .before .before in
-    let d = c .before .before .before .before .before .before .decimal in
-    omega (arith, fewest-20 (d .result) (start .args .x) (d .ensures .1 .0) (start .fits .x .fits), d .ensures .0 .1, start .pre, c .before .before .before .before .copy .ensures .size)
-
-add-end : tie.Need-add-end
-add-end c =
-    let start = c .before .before .before .before .before .before .before .before .before .before .before .before .before in
-    let d = c .before .before .before .before .before .before .before .before .before .decimal in
-    omega (arith, fewest-20 (d .result) (start .args .x) (d .ensures .1 .0) (start .fits .x .fits), d .ensures .0 .1, start .pre)
-
-slice-aggregate-copy-2 : tie.Need-slice-aggregate-copy-2
-slice-aggregate-copy-2 c = search needs
-
-copy-requires-3 : tie.Need-copy-requires-3
-copy-requires-3 c κs =
-    let start = c .before .before .before .before .before .before .before .before .before .before .before .before .before .before .before in
-    let d = c .before .before .before .before .before .before .before .before .before .before .before .decimal in
-    omega (arith, fewest-20 (d .result) (start .args .x) (d .ensures .1 .0) (start .fits .x .fits), d .ensures .0 .1, start .pre, c .before .before .before .before .before .before .before .before .before .copy .ensures .size, c .before .before .before .before .copy2 .ensures .size)
+copy-requires : tie.Need-copy-requires
+copy-requires c κs = search needs
 
 add-result : tie.Need-add-result
-add-result c =
-    let start = c .before .before .before .before .before .before .before .before .before .before .before .before .before .before .before .before .before .before in
-    let d = c .before .before .before .before .before .before .before .before .before .before .before .before .before .before .decimal in
-    omega (arith, fewest-20 (d .result) (start .args .x) (d .ensures .1 .0) (start .fits .x .fits), d .ensures .0 .1, start .pre)
+add-result c = search needs
 
 same-length : tie.Need-same-length
 same-length c = search needs
 
 returns : tie.Need-returns
 returns c =
-    let start = c .before .before .before .before .before .before .before .before .before .before .before .before .before .before .before .before .before .before in
-    let d = c .before .before .before .before .before .before .before .before .before .before .before .before .before .before .decimal in
-    line-laid (now (start .args .label)) _ (start .args .x) (d .result) (start .fits .x .fits) (d .ensures .1 .0) (d .ensures .1 .1) (d .ensures .0 .1)
-    (c .before .before .before .before .before .before .before .before .before .before .before .before .copy .ensures) (c .before .before .before .before .before .before .before .copy2 .ensures) (c .before .before .copy3 .ensures)
+    let n = c .before .before .before .before .before .before .before in
+    let start = n .before .before .before .before in
+    line-lined (now (start .args .label)) (start .args .x) (n .numbered .ensures) (c .before .before .copy .ensures)
 
 pub number-line-spec : {M : Type 1} → statement M
-number-line-spec =
-    tie.close
-    (tie.spec
-    decimal-requires
-    copy-requires
-    add-middle
-    array-share-prefix-digits
-    slice-aggregate-copy
-    copy-requires-2
-    add-end
-    slice-aggregate-copy-2
-    copy-requires-3
-    add-result
-    same-length
-    returns)
+number-line-spec = tie.close (tie.spec numbered-requires slice-aggregate-copy copy-requires add-result same-length returns)

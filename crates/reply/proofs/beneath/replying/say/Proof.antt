@@ -22,13 +22,13 @@ same-length : tie.Need-same-length
 same-length c = search needs
 
 returns : tie.Need-returns
-returns c = subst (Said _ _ _) (sym (c .before .before .before .before .before .what .given .1)) (c .before .before .say-verdict .ensures)
+returns c = subst (Said _ _ _ _) (sym (c .before .before .before .before .before .what .given .1)) (c .before .before .say-verdict .ensures)
 
 same-length-2 : tie.Need-same-length-2
 same-length-2 c = search needs
 
 returns-2 : tie.Need-returns-2
-returns-2 c = subst (Said _ _ _) (sym (c .before .before .before .before .before .what2 .given .1)) (c .before .before .stopped .ensures)
+returns-2 c = subst (Said _ _ _ _) (sym (c .before .before .before .before .before .what2 .given .1)) (c .before .before .stopped .ensures)
 
 pub say-spec : {M : Type 1} → statement M
 say-spec =

@@ -44,25 +44,33 @@ same-length : tie.Need-same-length
 same-length c = search needs
 
 returns : tie.Need-returns
-returns c = line-as (c .before .before .refused .ensures) (ap stopWords (sym (c .before .before .before .before .before .why .given .1)))
+returns c =
+    let e = c .before .before .before .before .before in
+    line-as (c .before .before .refused .ensures) (ap (stopWords (e .before .before .before .args .t)) (sym (e .why .given .1)))
 
 same-length-2 : tie.Need-same-length-2
 same-length-2 c = search needs
 
 returns-2 : tie.Need-returns-2
-returns-2 c = line-as (c .before .before .write-line .ensures) (ap stopWords (sym (c .before .before .before .before .before .enum-told .given .1)))
+returns-2 c =
+    let e = c .before .before .before .before .before in
+    line-as (c .before .before .write-line .ensures) (ap (stopWords (e .before .before .before .args .t)) (sym (e .enum-told .given .1)))
 
 same-length-3 : tie.Need-same-length-3
 same-length-3 c = search needs
 
 returns-3 : tie.Need-returns-3
-returns-3 c = line-as (c .before .before .write-line2 .ensures) (ap stopWords (sym (c .before .before .before .before .before .enum-told2 .given .1)))
+returns-3 c =
+    let e = c .before .before .before .before .before in
+    line-as (c .before .before .write-line2 .ensures) (ap (stopWords (e .before .before .before .args .t)) (sym (e .enum-told2 .given .1)))
 
 same-length-4 : tie.Need-same-length-4
 same-length-4 c = search needs
 
 returns-4 : tie.Need-returns-4
-returns-4 c = line-as (c .before .before .write-line3 .ensures) (ap stopWords (sym (c .before .before .before .before .before .enum-told3 .given .1)))
+returns-4 c =
+    let e = c .before .before .before .before .before in
+    line-as (c .before .before .write-line3 .ensures) (ap (stopWords (e .before .before .before .args .t)) (sym (e .enum-told3 .given .1)))
 
 pub stopped-spec : {M : Type 1} → statement M
 stopped-spec =
