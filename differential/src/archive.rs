@@ -2,7 +2,7 @@
 //! bench/ times is inlined, so that both sides make one call.
 use spoonripple::sys::*;
 
-/// A value, or the number of the refusal.
+/// A value, or the code of the refusal: its number, and above that byte the part that 4 has.
 pub type Answer<T> = Result<T, u32>;
 
 #[inline]
@@ -226,7 +226,7 @@ pub struct Stores {
     pub shortfall: Vec<u64>,
 }
 
-/// 0 solved, 100 contradiction, 101 open, else the number of the refusal.
+/// 0 solved, 100 contradiction, 101 open, else the code of the refusal.
 #[inline]
 pub fn solve([k, j, s, h, w, l, p, b, p1]: Record, tables: &[u32], came: Arrived, lent: &mut Stores) -> u32 {
     let Stores { rows, values, out, shortfall } = lent;

@@ -2,8 +2,8 @@
 use crate::records;
 use differential::archive::{self, Answer, Row};
 use differential::report::{Found, Report};
-use differential::rows::{self, sizes};
-use differential::{Lent, Random, caught, places, refusal, system};
+use differential::rows::{self, part, sizes};
+use differential::{Lent, Random, caught, number, places, refusal, system};
 use raptorq_lent::constraint_matrix::{self as theirs, enc_indices};
 use raptorq_lent::matrix::DenseBinaryMatrix;
 use raptorq_lent::rng::lent as tables_lent;
@@ -53,7 +53,7 @@ fn walks(report: &mut Report, random: &mut Random) {
     let room = random.room((d + d1) as usize);
     let ours = walk(row, tuple, room);
     let said = || format!("walk of {tuple:?} in {row:?}, room {room}");
-    let refused = refusal(&[(4, sizes(row).is_none()), (2, !in_bounds(tuple, w, p1)), (8, room < (d + d1) as usize)]);
+    let refused = report.due(refusal(&[rows::reason(part(row)), (2, !in_bounds(tuple, w, p1)), (8, room < (d + d1) as usize)]));
     // With P = 0 the crate's walk would not end; its closure needs no room.
     if numbers.is_none() || p == 0 || refused == Some(8) {
         return report.refusal(refused.is_some() && ours.err() == refused, said);
@@ -62,7 +62,7 @@ fn walks(report: &mut Report, random: &mut Random) {
     let given = caught(|| enc_indices((d, a, b, d1, a1, b1), w, p, p1, |j| places.push(j as u32))).map(|()| places);
     let right = |places: &Vec<u32>| *places == rows::walk(tuple, w, p, p1);
     match refused {
-        Some(4) => report.listed(BROKEN_ROW, ours == Err(4) && given.as_ref().is_none_or(right), said),
+        Some(n) if number(n) == 4 => report.listed(BROKEN_ROW, ours == Err(n) && given.as_ref().is_none_or(right), said),
         Some(n) if asserted(tuple, w, p1) => report.listed("D26 (a degree above its bounds)", ours == Err(n) && given.as_ref().is_some_and(right), said),
         Some(n) => report.listed("D25 (a tuple that the crate asserts against)", ours == Err(n) && given.is_none(), said),
         None => report.equal(given.is_some() && ours.ok() == given, said),
@@ -86,10 +86,10 @@ fn hdpc(report: &mut Report, random: &mut Random, row: Row, tables: &[u32]) {
         (0..h * l).map(|at| matrix.get(at / l, at % l).byte()).collect::<Vec<u8>>()
     });
     let said = || format!("HDPC rows of {row:?} with {} numbers, room {room}", lent_tables.len());
-    match refusal(&[(4, sizes(row).is_none()), (5, lent_tables.len() != 1024), (8, room < h * l)]) {
-        Some(4) => {
+    match report.due(refusal(&[rows::reason(part(row)), (5, lent_tables.len() != 1024), (8, room < h * l)])) {
+        Some(n) if number(n) == 4 => {
             let right = |octets: Vec<u8>| octets == system::hdpc(row.map(|n| n as usize), tables).concat();
-            report.listed(BROKEN_ROW, lent.refused(4) && given.is_none_or(right), said);
+            report.listed(BROKEN_ROW, lent.refused(n) && given.is_none_or(right), said);
         }
         Some(n) => report.refusal(lent.refused(n), said),
         None => report.equal(given.is_some_and(|octets| lent.holds(&octets)), said),
@@ -120,8 +120,8 @@ fn builder(report: &mut Report, random: &mut Random, row: Row, tables: &[u32], i
     let lent_tables = rows::lent_tables(random, tables);
     let lent = Lent::to(random.words(room), |words| call(rows::record(row), &lent_tables, ids, words));
     let said = || format!("builder of {row:?} with {} ids, HDPC {with_hdpc}, {} numbers, room {room}", ids.len(), lent_tables.len());
-    let refused = refusal(&[(4, sizes(row).is_none()), (5, lent_tables.len() != 1024), (9, few), (9, many), (8, room < used)]);
-    if let Some(n @ (4 | 5 | 8)) = refused {
+    let refused = report.due(refusal(&[rows::reason(part(row)), (5, lent_tables.len() != 1024), (9, few), (9, many), (8, room < used)]));
+    if let Some(n) = refused.filter(|n| number(*n) != 9) {
         return report.refusal(lent.refused(n), said);
     }
     let given = caught(|| match with_hdpc {
@@ -193,5 +193,6 @@ pub fn run(count: u64, seed: u64) -> Found {
     row_lent::lend(None);
     tables_lent::lend(None);
     records::tried(&mut report, &mut random, count / 500, &records::CONSTRAINTS, 40);
+    report.met(1..=10, 1000, count);
     report.close()
 }

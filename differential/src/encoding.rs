@@ -2,7 +2,7 @@
 use crate::records;
 use differential::archive::{self, Row};
 use differential::report::{Found, Report};
-use differential::rows::{self, sizes};
+use differential::rows::{self, part, sizes};
 use differential::{Lent, Random, caught, refusal};
 use raptorq::{ObjectTransmissionInformation, SourceBlockEncoder};
 use raptorq_lent::base::{self, PayloadId};
@@ -54,7 +54,7 @@ fn encode(report: &mut Report, random: &mut Random, (row, tables): (Row, &[u32])
     let said = || format!("encode {esi} of {count}, T {t}, {row:?}, {} numbers, {} octets, room {room}", lent_tables.len(), intermediates.len());
     let short = sizes(row).is_some_and(|[l, ..]| intermediates.len() < l as usize * usize::from(t));
     let refused = refusal(&[
-        (4, sizes(row).is_none()),
+        rows::reason(part(row)),
         (5, lent_tables.len() != 1024),
         (9, !(1..=row[0]).contains(&count)),
         (9, esi >= 1 << 24),
@@ -62,7 +62,7 @@ fn encode(report: &mut Report, random: &mut Random, (row, tables): (Row, &[u32])
         (8, short),
         (8, room < t.into()),
     ]);
-    match refused {
+    match report.due(refused) {
         Some(9) if esi >= 1 << 24 => report.listed("D6 (ESI of 2^24)", lent.refused(9) && caught(|| PayloadId::new(0, esi)).is_none(), said),
         Some(n) => report.refusal(lent.refused(n), said),
         None => {
@@ -121,5 +121,6 @@ pub fn run(count: u64, seed: u64) -> Found {
     }
     refused_blocks(&mut report);
     records::tried(&mut report, &mut random, count / 500, &records::ENCODING, 477);
+    report.met(1..=10, 1000, count);
     report.close()
 }

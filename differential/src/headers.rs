@@ -1,9 +1,10 @@
 //! Headers and tuples: ids, transmission information, packets, partitions, degrees, rand, parameter rows, the shift, tuples.
 use crate::records;
 use differential::archive::{self, Row};
+use differential::near;
 use differential::report::{Found, Report};
-use differential::rows::{self, sizes};
-use differential::{Lent, Random, caught, refusal, values};
+use differential::rows::{self, part};
+use differential::{Lent, Random, caught, code, number, refusal, values};
 use raptorq_lent::base::{self, EncodingPacket, ObjectTransmissionInformation, PayloadId};
 use raptorq_lent::rng;
 
@@ -197,19 +198,19 @@ fn thresholds(report: &mut Report) {
     }
 }
 
-/// Rows and the shift: the crate looks its rows up and has no check of one, and its shift is a sum inside its decoder.
-fn parameter_rows(report: &mut Report, random: &mut Random) {
-    let (row, room) = (rows::made_up(random), random.room(9));
+/// A row and the shift: the crate looks its rows up and has no check of one, and its shift is a sum inside its decoder.
+fn parameter_row(report: &mut Report, random: &mut Random, row: Row) {
+    let room = random.room(9);
     let ours = values(room, 9, |out| archive::row_check(row, out));
     let said = || format!("row {row:?}, room {room}");
-    match refusal(&[(4, sizes(row).is_none()), (8, room < 9)]) {
+    match report.due(refusal(&[rows::reason(part(row)), (8, room < 9)])) {
         Some(n) => report.refusal(ours == Err(n), said),
         None => report.computed(ours == Ok(rows::record(row).map(u64::from).to_vec()), said),
     }
     let (k, esi, room) = (edgy(random, 17) as u32, edgy(random, 25) as u32, random.room(1));
     let ours = values(room, 1, |out| archive::isi(rows::record(row), k, esi, out));
     let said = || format!("isi of {esi} with K {k} of {row:?}, room {room}");
-    match refusal(&[(4, sizes(row).is_none()), (9, esi >= 1 << 24), (9, !(1..=row[0]).contains(&k)), (8, room < 1)]) {
+    match report.due(refusal(&[rows::reason(part(row)), (9, esi >= 1 << 24), (9, !(1..=row[0]).contains(&k)), (8, room < 1)])) {
         Some(9) if esi >= 1 << 24 => report.listed("D6 (ESI of 2^24)", ours == Err(9) && caught(|| PayloadId::new(0, esi)).is_none(), said),
         Some(n) => report.refusal(ours == Err(n), said),
         None => report.computed(ours == Ok(vec![rows::shifted(row, k, esi).into()]), said),
@@ -224,8 +225,10 @@ fn tuple(report: &mut Report, row: Row, tables: &[u32], lent: &[u32], x: u32, ro
     let right = || p1.and_then(|p1| caught(|| rows::tuple(row, p1, tables, x)));
     let wide = |tuple: Option<[u32; 6]>| tuple.map(|t| t.map(u64::from).to_vec()).ok_or(0);
     let said = || format!("tuple of {x} in {row:?} with {} numbers, room {room}", lent.len());
-    match refusal(&[(4, sizes(row).is_none()), (5, lent.len() != 1024), (8, room < 6)]) {
-        Some(4) if p1.is_some() => report.listed("D24 (a row that breaks its rules)", ours == Err(4) && (given.is_none() || given == right()), said),
+    match report.due(refusal(&[rows::reason(part(row)), (5, lent.len() != 1024), (8, room < 6)])) {
+        Some(n) if number(n) == 4 && p1.is_some() => {
+            report.listed("D24 (a row that breaks its rules)", ours == Err(n) && (given.is_none() || given == right()), said);
+        }
         Some(n) => report.refusal(ours == Err(n), said),
         None if given.is_some() => report.equal(ours == wide(given), said),
         None => report.listed("D11 (rand overflows)", ours == wide(right()), said),
@@ -255,6 +258,37 @@ fn tuples(report: &mut Report, random: &mut Random, rounds: u64) {
     rng::lent::lend(None);
 }
 
+/// Rows whose part is known: the harness's rules and the check both have to give it.
+fn by_hand(report: &mut Report) {
+    for (row, known) in near::ROWS {
+        let due = report.due((known > 0).then(|| code(4, known)));
+        let ours = values(9, 9, |out| archive::row_check(row, out));
+        report.computed(part(row) == due.map(|code| code / 256) && ours.err() == due, || format!("row {row:?}, by hand part {known}"));
+    }
+}
+
+/// Rows near the rules on the calls that take five numbers or their record: first every row of the edges, then so many rounds.
+fn near_rules(report: &mut Report, random: &mut Random, rounds: u64) {
+    let tables = rows::any_tables(random);
+    rng::lent::lend(Some(tables.clone()));
+    let mut tried = |random: &mut Random, kind: &'static str, row: Row| {
+        parameter_row(report, random, row);
+        let (lent, x) = (rows::lent_tables(random, &tables), edgy(random, 32) as u32);
+        tuple(report, row, &tables, &lent, x, random.room(6));
+        (0..3).for_each(|_| report.kind(kind));
+    };
+    near::grid().into_iter().for_each(|row| tried(random, "rows of edges", row));
+    for _ in 0..rounds {
+        for part in 1..=9 {
+            let row = near::row(random, part);
+            tried(random, "rows near a rule", row);
+        }
+        let row = near::several(random);
+        tried(random, "rows of edges", row);
+    }
+    rng::lent::lend(None);
+}
+
 pub fn run(count: u64, seed: u64) -> Found {
     let mut report = Report::new("headers", seed);
     let mut random = Random::new(seed);
@@ -262,7 +296,10 @@ pub fn run(count: u64, seed: u64) -> Found {
     times(count / 8, &mut ids);
     times(count / 4, &mut transmission);
     times(count / 8, &mut packets);
-    times(count / 8, &mut parameter_rows);
+    times(count / 8, &mut |report, random| {
+        let row = rows::made_up(random);
+        parameter_row(report, random, row);
+    });
     let published = rng::lent::published();
     times(count / 8, &mut |report, random| numbers(report, random, &published));
     let tables = rows::any_tables(&mut Random::new(seed));
@@ -271,6 +308,9 @@ pub fn run(count: u64, seed: u64) -> Found {
     rng::lent::lend(None);
     thresholds(&mut report);
     tuples(&mut report, &mut random, count / 100);
+    by_hand(&mut report);
+    near_rules(&mut report, &mut random, count / 500);
     records::tried(&mut report, &mut random, count / 500, &records::HEADERS, 477);
+    report.met(1..=10, 1000, count);
     report.close()
 }

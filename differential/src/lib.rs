@@ -6,6 +6,7 @@ use std::sync::Once;
 // The arguments of a call stand together.
 #[rustfmt::skip]
 pub mod archive;
+pub mod near;
 pub mod report;
 pub mod rows;
 pub mod system;
@@ -50,15 +51,26 @@ impl Random {
 /// Document 01's order where several refusals apply.
 const ORDER: [u32; 10] = [4, 5, 2, 9, 10, 8, 6, 7, 3, 1];
 
-/// The refusal that document 01 gives: each reason is a number of its table, and whether it applies.
+/// What a call gives for a refusal: its number, and above that byte its part, which only 4 has.
+pub fn code(number: u32, part: u32) -> u32 {
+    number + 256 * part
+}
+
+/// The number in a code.
+pub fn number(code: u32) -> u32 {
+    code % 256
+}
+
+/// The refusal that document 01 gives, as a code: each reason is a code, and whether it applies. That of a row is `rows::reason`.
 pub fn refusal(reasons: &[(u32, bool)]) -> Option<u32> {
-    ORDER.into_iter().find(|number| reasons.contains(&(*number, true)))
+    let due = |of| reasons.iter().find(|(code, applies)| *applies && number(*code) == of);
+    ORDER.into_iter().find_map(due).map(|(code, _)| *code)
 }
 
 /// What stands in a store where a call should leave it alone.
 const UNTOUCHED: u64 = 0xA5A5_A5A5_A5A5_A5A5;
 
-/// In the place of an answer: the call wrote past it, or refused and had written. No refusal has this number.
+/// In the place of an answer: the call wrote past it, or refused and had written. No refusal has this code.
 const WROTE: u32 = u32::MAX;
 
 /// The first `used` places of a store, if the call left the rest alone.
@@ -96,9 +108,9 @@ impl<T: Clone + PartialEq> Lent<T> {
         let answer = call(&mut after);
         Lent { answer, before, after }
     }
-    /// Refused by this number, and nothing has changed.
-    pub fn refused(&self, number: u32) -> bool {
-        self.answer == Err(number) && self.after == self.before
+    /// Refused by this code, and nothing has changed.
+    pub fn refused(&self, code: u32) -> bool {
+        self.answer == Err(code) && self.after == self.before
     }
     /// Done: these are at the front, and all else is as it was.
     pub fn holds(&self, front: &[T]) -> bool {

@@ -10,7 +10,7 @@ mod slab;
 mod solver;
 mod vectors;
 
-use differential::report::Found;
+use differential::report::{DEFAULT_COUNT, Found};
 
 fn main() {
     let words: Vec<String> = std::env::args().skip(1).collect();
@@ -18,7 +18,7 @@ fn main() {
         return vectors::write(&words[1]).expect("the files are written");
     }
     let number = |at: usize, default: u64| words.get(at).map_or(Ok(default), |w| w.parse());
-    let (Some(area), Ok(count), Ok(seed)) = (words.first(), number(1, 1_000_000), number(2, 1)) else {
+    let (Some(area), Ok(count), Ok(seed)) = (words.first(), number(1, DEFAULT_COUNT), number(2, 1)) else {
         eprintln!("usage: run AREA [COUNT] [SEED]");
         std::process::exit(2);
     };

@@ -1,9 +1,10 @@
-//! Records of which a number does not belong to the row: every call that takes a record refuses such a one by 4, before all else that it refuses, and leaves
-//! every element that it was lent.
+//! Records that break a rule, in the row's own numbers or in L, P, B or P1: every call that takes a record refuses such a one by 4 and the part of the first
+//! rule that breaks, before all else that it refuses, and leaves every element that it was lent.
 use crate::solver::stores;
 use differential::archive::{self, Answer, Arrived, Record, Stores};
+use differential::near::{self, wrong};
 use differential::report::Report;
-use differential::{Random, rows};
+use differential::{Random, refusal, rows};
 
 /// What a call has besides the record, of which each takes its part.
 #[derive(Clone, Debug, Default, PartialEq)]
@@ -50,7 +51,7 @@ pub struct Taker {
     /// Lends what the call writes to, of any content, and up to four elements more.
     lend: fn(&mut Given, &mut Random, Record),
     ask: fn(&mut Given, Record) -> Answer<()>,
-    /// What the call refuses too, but later, and by which number.
+    /// What the call refuses too, but later, and by which number. The first of them is refused whatever the row is.
     later: &'static [(u32, fn(&mut Given))],
 }
 
@@ -180,46 +181,34 @@ impl Taker {
         ((self.ask)(&mut after, record), after)
     }
 
-    /// One case of a kind: the record is refused by 4, and all stays as it was. `shows`: the right record was answered as it should be; else the case would
-    /// show nothing, and is a difference too.
+    /// One case of a kind: the record is refused by 4 and its part, and all stays as it was. `shows`: the right record was answered as it should be; else the
+    /// case would show nothing, and is a difference too.
     fn refuses(&self, report: &mut Report, kind: &'static str, record: Record, given: &Given, shows: bool) {
+        let due = report.due(refusal(&[rows::reason(rows::record_part(record))]));
         let (answer, after) = self.called(given, record);
         report.kind(kind);
-        report.refusal(shows && answer == Err(4) && after == *given, || format!("{kind}: {} with {record:?}, {given:?}", self.name));
+        report.refusal(shows && due.is_some() && answer.err() == due && after == *given, || format!("{kind}: {} with {record:?}, {given:?}", self.name));
+    }
+
+    /// Records near each rule. One that keeps them all comes beside something that is refused later, and is refused by that number; so do half of the others.
+    fn near(&self, report: &mut Report, random: &mut Random, given: &Given) {
+        for part in 1..=10 {
+            let record = near::record(random, part);
+            let (reason, (number, spoil)) = (rows::reason(rows::record_part(record)), self.later[0]);
+            let mut lent = given.clone();
+            if !reason.1 || random.below(2) == 0 {
+                spoil(&mut lent);
+            }
+            let due = report.due(refusal(&[reason, (number, true)]));
+            let (answer, after) = self.called(&lent, record);
+            report.kind("records near a rule");
+            report.refusal(answer.err() == due && after == lent, || format!("near rule {part}: {} with {record:?}, {lent:?}", self.name));
+        }
     }
 }
 
 /// The places of L, P, B and P1 in a record, and the kinds under which they are counted.
-const WRONG: [(usize, &str); 4] = [(5, "records with L wrong"), (6, "records with P wrong"), (7, "records with B wrong"), (P1, "records with P1 wrong")];
-const P1: usize = 8;
-
-/// What could stand in the place of P1: P, the next prime, the prime below P.
-fn instead_of_p1(random: &mut Random, p: u32, p1: u32) -> u32 {
-    let found = match random.below(3) {
-        0 => Some(p),
-        1 => (p1 + 1..1 << 20).find(|n| rows::is_prime(*n)),
-        _ => (2..p).rev().find(|n| rows::is_prime(*n)),
-    };
-    found.expect("P is from 3 on, and far below 2^20")
-}
-
-/// The record with another number in this place: one less or more, 0, any, one bit or the upper half changed, or another number of the record.
-fn wrong(random: &mut Random, right: Record, at: usize) -> Record {
-    let (mut record, n) = (right, right[at]);
-    while record == right {
-        record[at] = match random.below(8) {
-            0 => n - 1,
-            1 => n + 1,
-            2 => 0,
-            3 => random.word() as u32 >> random.below(32),
-            4 => n ^ 1u32 << random.below(32),
-            5 => n.wrapping_add(65536 * random.below(65536) as u32),
-            _ if at == P1 && random.below(2) == 0 => instead_of_p1(random, right[6], n),
-            _ => right[random.below(9) as usize],
-        };
-    }
-    record
-}
+const WRONG: [(usize, &str); 4] = [(5, "records with L wrong"), (6, "records with P wrong"), (7, "records with B wrong"), (8, "records with P1 wrong")];
 
 /// The row's five numbers and the four of another, or one of K', S, H and W moved by one and all else left.
 fn of_two_rows(random: &mut Random, right: Record) -> Record {
@@ -237,7 +226,7 @@ fn of_two_rows(random: &mut Random, right: Record) -> Record {
 }
 
 /// Each call in each round, on an accepted row, small or one of so many published ones: with each of the four numbers wrong, alone and beside something
-/// that is refused later, and with a record of two rows.
+/// that is refused later, with a record of two rows, and with records near each rule.
 pub fn tried(report: &mut Report, random: &mut Random, rounds: u64, takers: &[Taker], published: u64) {
     for taker in (0..rounds).flat_map(|_| takers) {
         let right = rows::record(rows::accepted_or_published(random, published));
@@ -252,5 +241,6 @@ pub fn tried(report: &mut Report, random: &mut Random, rounds: u64, takers: &[Ta
             taker.refuses(report, "wrong records before a later refusal", wrong(random, right, at), &spoiled, later);
         }
         taker.refuses(report, "records of two rows", of_two_rows(random, right), &given, taken);
+        taker.near(report, random, &given);
     }
 }

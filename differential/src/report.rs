@@ -3,6 +3,10 @@ use crate::Random;
 use crate::archive::Answer;
 use std::collections::BTreeMap;
 use std::io::Write;
+use std::ops::RangeInclusive;
+
+/// How many random cases a run has that names no count.
+pub const DEFAULT_COUNT: u64 = 1_000_000;
 
 /// What an area, or all of them, came to: each case is a difference, or was held in one of the four ways that follow.
 #[derive(Default)]
@@ -19,6 +23,8 @@ pub struct Found {
     computed: u64,
     /// How many cases were of which kind, where an area tells.
     kinds: BTreeMap<&'static str, u64>,
+    /// In how many cases refusal 4 was due with which part.
+    parts: BTreeMap<u32, u64>,
 }
 
 pub struct Report {
@@ -62,7 +68,7 @@ impl Report {
         self.case(as_listed, input, |found| *found.listed.entry(number).or_insert(0) += 1);
     }
 
-    /// A refusal where the crate cannot be asked, since it has no such call or no such argument: document 01 alone says the number.
+    /// A refusal where the crate cannot be asked, since it has no such call or no such argument: documents 01 and 02 alone say the code.
     pub fn refusal(&mut self, as_told: bool, input: impl FnOnce() -> String) {
         self.case(as_told, input, |found| found.refusals += 1);
     }
@@ -70,6 +76,25 @@ impl Report {
     /// An answer where the crate cannot be asked: the harness has computed it by itself.
     pub fn computed(&mut self, same: bool, input: impl FnOnce() -> String) {
         self.case(same, input, |found| found.computed += 1);
+    }
+
+    /// The refusal that is due in the case that follows, or none: where it has a part, that is counted.
+    pub fn due(&mut self, refused: Option<u32>) -> Option<u32> {
+        if let Some(part) = refused.map(|code| code / 256).filter(|part| *part > 0) {
+            *self.found.parts.entry(part).or_insert(0) += 1;
+        }
+        refused
+    }
+
+    /// That each of these parts was due at least so often: a run that met one less often shows less than it says, which is a difference. Only a run of the
+    /// default size or more is held to it; in a shorter one it may be chance.
+    pub fn met(&mut self, parts: RangeInclusive<u32>, least: u64, count: u64) {
+        for part in parts.filter(|_| count >= DEFAULT_COUNT) {
+            let times = self.found.parts.get(&part).copied().unwrap_or(0);
+            if times < least {
+                self.case(false, || format!("part {part} of refusal 4 was due {times} times, and has to be {least} times"), |_| ());
+            }
+        }
     }
 
     /// A call that one number refuses where the crate panics as listed, another where the crate cannot be asked, and that else gives what the crate gives.
@@ -112,19 +137,21 @@ impl Found {
     pub fn head() {
         line("equal     the crate gives the same");
         line("listed    the two differ as docs/DIFFERENCES.md says, by its numbers below");
-        line("refusals  refused here, and the crate cannot be asked: held to document 01 alone");
+        line("refusals  refused here, and the crate cannot be asked: held to documents 01 and 02 alone");
         line("computed  answered here, and the crate cannot be asked: held to the harness's own computation");
+        line("part      of refusal 4, below: in how many cases it was due");
         line(&format!("\n{:<12} {:>10} {:>11} {:>10} {:>10} {:>10} {:>10}", "area", "cases", "differences", "equal", "listed", "refusals", "computed"));
     }
 
     pub fn row(&self, area: &str) {
-        let Found { cases, differences, equal, listed, refusals, computed, kinds } = self;
+        let Found { cases, differences, equal, listed, refusals, computed, kinds, parts } = self;
         let all_listed: u64 = listed.values().sum();
         line(&format!("{area:<12} {cases:>10} {differences:>11} {equal:>10} {all_listed:>10} {refusals:>10} {computed:>10}"));
         let numbers = listed.iter().map(|(number, count)| format!("D{number} {count}"));
-        let parts: Vec<String> = numbers.chain(kinds.iter().map(|(kind, count)| format!("{count} {kind}"))).collect();
-        if !parts.is_empty() {
-            line(&format!("{:<12} {}", "", parts.join(", ")));
+        let parts = parts.iter().map(|(part, count)| format!("{count} part {part}"));
+        let told: Vec<String> = numbers.chain(parts).chain(kinds.iter().map(|(kind, count)| format!("{count} {kind}"))).collect();
+        if !told.is_empty() {
+            line(&format!("{:<12} {}", "", told.join(", ")));
         }
     }
 
@@ -136,6 +163,7 @@ impl Found {
         self.computed += other.computed;
         other.listed.into_iter().for_each(|(number, count)| *self.listed.entry(number).or_insert(0) += count);
         other.kinds.into_iter().for_each(|(kind, count)| *self.kinds.entry(kind).or_insert(0) += count);
+        other.parts.into_iter().for_each(|(part, count)| *self.parts.entry(part).or_insert(0) += count);
         self
     }
 }

@@ -1,6 +1,6 @@
 //! Parameter rows for the harness: the published ones, made-up ones, and the rules and numbers of document 01 in plain Rust.
-use crate::Random;
 use crate::archive::{Record, Row};
+use crate::{Random, code};
 use raptorq::systematic_constants as constants;
 use std::borrow::Cow;
 
@@ -14,19 +14,41 @@ pub fn pi_sizes([k, _, s, h, w]: Row) -> Option<[u32; 2]> {
     Some([p, (p..=u32::MAX).find(|n| is_prime(*n))?])
 }
 
+/// The part of refusal 4 that a row is given: the place, in document 01's order of rules, of the first that it breaks.
+pub fn part(row: Row) -> Option<u32> {
+    let [k, _, s, h, w] = row.map(i64::from);
+    let (l, b) = (k + s + h, w - s);
+    let p = l - w;
+    let rules: [&dyn Fn() -> bool; 9] = [
+        &|| row.iter().all(|n| *n < 65536),
+        &|| (1..=56403).contains(&k),
+        &|| s % 2 == 1 && s >= 3,
+        &|| (2..=255).contains(&h),
+        &|| is_prime(row[4]),
+        &|| b >= 1,
+        &|| p >= 3,
+        // Asked only where S and B are above 0.
+        &|| (b + s - 1) / s < s,
+        &|| l <= 65535,
+    ];
+    (1..).zip(rules).find(|(_, keeps)| !keeps()).map(|(place, _)| place)
+}
+
+/// The part of a record: that of its row, else 10 where L, P, B or P1 is not what the row's numbers give.
+pub fn record_part(given: Record) -> Option<u32> {
+    let [k, j, s, h, w, ..] = given;
+    let row = [k, j, s, h, w];
+    part(row).or_else(|| (given != record(row)).then_some(10))
+}
+
+/// The reason that a part is to refuse a call, for `refusal`; none is no reason.
+pub fn reason(part: Option<u32>) -> (u32, bool) {
+    (code(4, part.unwrap_or(0)), part.is_some())
+}
+
 /// L, P, B and P1 of a row that keeps the rules.
-pub fn sizes([k, j, s, h, w]: Row) -> Option<[u32; 4]> {
-    let fits = [k, j, s, h, w].iter().all(|n| *n < 65536)
-        && (1..=56403).contains(&k)
-        && s % 2 == 1
-        && s >= 3
-        && (2..=255).contains(&h)
-        && is_prime(w)
-        && w > s
-        && k + s + h >= w + 3
-        && (w - s).div_ceil(s) < s
-        && k + s + h <= 65535;
-    fits.then(|| record([k, j, s, h, w])).map(|[.., l, p, b, p1]| [l, p, b, p1])
+pub fn sizes(row: Row) -> Option<[u32; 4]> {
+    part(row).is_none().then(|| record(row)).map(|[.., l, p, b, p1]| [l, p, b, p1])
 }
 
 /// The record of a row, as the check has to make it. A row that breaks a rule has one too, of sums modulo 2^32 and with 0 for a P1 far above all sizes: so

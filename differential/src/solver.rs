@@ -2,7 +2,7 @@
 use crate::records;
 use differential::archive::{self, Arrived, Row, Stores};
 use differential::report::{Found, Report};
-use differential::rows::{self, any_tables, measures, sizes};
+use differential::rows::{self, any_tables, measures, part};
 use differential::system::{self, Verdict};
 use differential::{Random, caught, refusal, values};
 use raptorq::{EncodingPacket, ObjectTransmissionInformation, PayloadId, SourceBlockDecoder, SourceBlockEncoder};
@@ -229,10 +229,10 @@ struct Call {
 /// What document 01 says of a call.
 fn refused_by(c: &Call) -> Option<u32> {
     let (n, t) = (c.esis.len(), usize::from(c.t));
-    let accepted = sizes(c.row).is_some() && (1..=c.row[0]).contains(&c.count);
+    let accepted = part(c.row).is_none() && (1..=c.row[0]).contains(&c.count);
     let [l, m] = if accepted { measures(c.row, c.count, n) } else { [0, 0] };
     refusal(&[
-        (4, sizes(c.row).is_none()),
+        rows::reason(part(c.row)),
         (5, c.tables.len() != 1024),
         (9, !(1..=c.row[0]).contains(&c.count) || n > 65535 || c.esis.iter().any(|e| *e >= 1 << 24)),
         (10, t == 0 || c.symbols.len() != n * t),
@@ -248,7 +248,7 @@ fn called(call: &Call) -> (u32, Call) {
     (code, after)
 }
 
-/// That document 01 refuses a call, and ours by the same number, with the whole memory as it was, inputs too.
+/// That document 01 refuses a call, and ours by the same code, with the whole memory as it was, inputs too.
 fn refuses(call: &Call) -> bool {
     let (code, after) = called(call);
     refused_by(call) == Some(code) && after == *call
@@ -302,7 +302,7 @@ fn refused(report: &mut Report, random: &mut Random) {
         damage(random, &mut call);
     }
     let said = || format!("{call:?}");
-    match refused_by(&call) {
+    match report.due(refused_by(&call)) {
         Some(9) if call.esis.iter().any(|e| *e >= 1 << 24) => report.listed("D6 (ESI of 2^24)", refuses(&call) && unpacked(&call.esis), said),
         Some(_) => report.refusal(refuses(&call), said),
         None => {
@@ -439,5 +439,6 @@ pub fn run(count: u64, seed: u64) -> Found {
         [0, 2, -2].into_iter().for_each(|extra| real(&mut report, &mut random, k, t, extra));
     }
     records::tried(&mut report, &mut random, count / 500, &records::SOLVER, 10);
+    report.met(1..=10, 1000, count);
     report.close()
 }

@@ -13,7 +13,15 @@ struct Vectors {
 impl Vectors {
     /// A question, answered by the numbers that the crate gives, or by the refusal that stands for its panic.
     fn ask(&mut self, kind: char, numbers: &[u64], given: Option<Vec<u32>>, refusal: u32) {
-        let answer = given.map_or(format!("refused {refusal} "), |values| values.iter().map(|v| format!("{v} ")).collect());
+        match given {
+            Some(values) => self.answer(kind, numbers, &values),
+            None => self.put(kind, numbers, &format!("refused {refusal} ")),
+        }
+    }
+
+    /// A question that is answered by these numbers.
+    fn answer(&mut self, kind: char, numbers: &[u64], values: &[u32]) {
+        let answer: String = values.iter().map(|v| format!("{v} ")).collect();
         self.put(kind, numbers, &answer);
     }
 
@@ -48,14 +56,14 @@ fn rows_and_tuples(v: &mut Vectors, random: &mut Random) {
     for row in rows::published() {
         let wide = row.map(u64::from);
         let sizes = rows::published_sizes(row);
-        v.ask('w', &wide, Some(sizes.iter().map(|n| *n as u32).collect()), 4);
+        v.answer('w', &wide, &sizes.map(|n| n as u32));
         let (k, esi) = (1 + random.below(wide[0]) as u32, random.below(2 * wide[0]) as u32);
-        v.ask('i', &[&wide[..], &[k.into(), esi.into()]].concat(), Some(vec![rows::shifted(row, k, esi)]), 9);
+        v.answer('i', &[&wide[..], &[k.into(), esi.into()]].concat(), &[rows::shifted(row, k, esi)]);
         for x in [random.below(wide[0]), random.below(1 << 24)] {
             let tuple = caught(|| base::intermediate_tuple(x as u32, row[4], row[1], sizes[3] as u32));
             // A panic here is the overflow of rand that docs/DIFFERENCES.md lists: no answer of the crate's to replay.
             if let Some((d, a, b, d1, a1, b1)) = tuple {
-                v.ask('t', &[&wide[..], &[x]].concat(), Some(vec![d, a, b, d1, a1, b1]), 4);
+                v.answer('t', &[&wide[..], &[x]].concat(), &[d, a, b, d1, a1, b1]);
             }
         }
     }
