@@ -1,16 +1,19 @@
-//! The receiving program, run as a process: deliveries of the crate's encoder, whole, short, damaged and cut, against docs/DELIVERY.md in plain Rust.
+//! The receiving program, run as a process: deliveries of the crate's encoder, whole, short, damaged and cut, with typing errors in the row and with rows near
+//! the rules, against docs/DELIVERY.md in plain Rust.
 use crate::solver::{judged, some};
-use differential::Random;
 use differential::archive::{Arrived, Row};
 use differential::report::{Found, Report};
 use differential::rows::{self, sizes};
 use differential::system::{self, Verdict};
+use differential::{Random, code, near};
 use raptorq::{ObjectTransmissionInformation, SourceBlockEncoder};
 use raptorq_lent::rng::lent::published;
+use std::borrow::Cow;
 use std::fs::{self, File};
 use std::process::Stdio;
 
 mod program;
+mod typed;
 use program::{Files, Program, Seen};
 
 const TOO_LARGE: &str = "too large for this program: T is at most 1,024, L at most 300, the equations at most 360";
@@ -24,41 +27,41 @@ fn row(d: &[u8]) -> Row {
 }
 
 /// The line of a delivery that is not taken, in the order of docs/DELIVERY.md.
-fn stop(d: &[u8]) -> Option<&'static str> {
+fn stop(d: &[u8]) -> Option<Cow<'static, str>> {
     if d.len() < 32 {
-        return Some("refused 8: the delivery ends in its first 32 bytes");
+        return Some("refused 8: the delivery ends in its first 32 bytes".into());
     }
     let (f, t, z, n, al) = (number(&d[..5]), number(&d[6..8]), d[8], number(&d[9..11]), d[11]);
     let crowded = t > 0 && z > 0 && f.div_ceil(t).div_ceil(z.into()) > 56403;
     if f > 942_574_504_275 || al == 0 || t % u64::from(al) != 0 || crowded {
-        return Some("refused 3: the transmission information breaks its rules");
+        return Some("refused 3: the transmission information breaks its rules".into());
     }
     if z != 1 || n != 1 {
-        return Some("several blocks: this program takes one source block of one sub-block");
+        return Some("several blocks: this program takes one source block of one sub-block".into());
     }
     if t == 0 {
-        return Some("refused 10: the symbol size is 0, or the last packet is not whole");
+        return Some("refused 10: the symbol size is 0, or the last packet is not whole".into());
     }
-    let Some([l, _, _, _]) = sizes(row(d)) else { return Some("refused 4: the parameter row breaks its rules") };
+    let Some([l, _, _, _]) = sizes(row(d)) else { return typed::line(row(d)).map(Cow::from) };
     let (k, most) = (f.div_ceil(t), u64::from(row(d)[0]));
     if k < 1 || k > most {
-        return Some("refused 9: the count of source symbols is not from 1 to K'");
+        return Some("refused 9: the count of source symbols is not from 1 to K'".into());
     }
     if t > 1024 || l > 300 {
-        return Some(TOO_LARGE);
+        return Some(TOO_LARGE.into());
     }
     if d.len() < 4128 {
-        return Some("refused 5: the random tables are not 1,024 numbers");
+        return Some("refused 5: the random tables are not 1,024 numbers".into());
     }
     let (rest, one) = (d.len() as u64 - 4128, t + 4);
     if u64::from(l) - k + rest / one > 360 {
-        return Some(TOO_LARGE);
+        return Some(TOO_LARGE.into());
     }
     if rest % one != 0 {
-        return Some("refused 10: the symbol size is 0, or the last packet is not whole");
+        return Some("refused 10: the symbol size is 0, or the last packet is not whole".into());
     }
     let other = d[4128..].chunks(one as usize).any(|packet| packet[0] != 0);
-    other.then_some("another block: a packet has a block number other than 0")
+    other.then(|| "another block: a packet has a block number other than 0".into())
 }
 
 /// What a run comes to: the object's bytes and no word, or a line of words and no byte.
@@ -105,8 +108,19 @@ fn delivery(random: &mut Random, object: &[u8], t: usize, came: usize) -> Vec<u8
         packets.push(packets[random.below(packets.len() as u64) as usize].clone());
     }
     let row = rows::published().into_iter().find(|r| r[0] as usize >= k).unwrap();
+    [head(&config, row), packets.concat()].concat()
+}
+
+/// What stands before the packets.
+fn head(config: &ObjectTransmissionInformation, row: Row) -> Vec<u8> {
     let numbers = row.into_iter().chain(published()).flat_map(u32::to_be_bytes);
-    config.serialize().into_iter().chain(numbers).chain(packets.concat()).collect()
+    config.serialize().into_iter().chain(numbers).collect()
+}
+
+/// A delivery of a block of k symbols, of which none came.
+fn unheard(random: &mut Random, k: u32, row: Row) -> Vec<u8> {
+    let t = 1 + random.below(40) as u16;
+    head(&ObjectTransmissionInformation::new(u64::from(k) * u64::from(t), t, 1, 1, 1), row)
 }
 
 /// A delivery of any object; some packets are lost, some may come twice.
@@ -154,12 +168,22 @@ fn older() -> Files {
     Files::from([(OUT.into(), b"of the night before".to_vec()), (".catalogue.receive-0".into(), b"of the".to_vec())])
 }
 
+fn piped() -> [Stdio; 2] {
+    [Stdio::piped(), Stdio::piped()]
+}
+
+/// Counts the part that a run has to tell, if its row is refused.
+fn told(report: &mut Report, due: &Outcome) {
+    let part = due.as_ref().err().and_then(|line| typed::part_in(line));
+    report.due(part.map(|part| code(4, part)));
+}
+
 /// One delivery by standard output, and one in four to a file as well: whether that is there before, and whether its path is absolute, goes by the number.
 fn tried(report: &mut Report, program: &Program, d: &[u8], seed: u64, number: u64) {
     let (kind, due) = expected(d);
-    let piped = || [Stdio::piped(), Stdio::piped()];
     let nothing = Files::new();
     let same = program.run(&[], piped(), &nothing, d) == seen(&due, None, &nothing);
+    told(report, &due);
     report.of(kind, same, || kept(d, seed, number));
     if number % 4 == 0 {
         let path = if number % 8 == 0 { OUT.into() } else { program.folder.join(OUT).display().to_string() };
@@ -169,9 +193,24 @@ fn tried(report: &mut Report, program: &Program, d: &[u8], seed: u64, number: u6
     }
 }
 
+/// A delivery with a typing error in its row, which may be larger than the program takes: a line that refuses the row has the name of that number.
+fn mistyped(report: &mut Report, random: &mut Random, program: &Program, seed: u64, number: u64) {
+    let any = rows::published()[random.below(477) as usize];
+    let mut d = if random.below(2) == 0 { sound(random) } else { unheard(random, any[0], any) };
+    let (wrong, at, slip) = typed::mistyped(random, row(&d));
+    d[12..32].copy_from_slice(&wrong.map(u32::to_be_bytes).concat());
+    let (kind, due) = expected(&d);
+    let nothing = Files::new();
+    let ran = program.run(&[], piped(), &nothing, &d);
+    let (name, of) = typed::NUMBERS[at];
+    let named = rows::part(wrong).is_none() || typed::names(&String::from_utf8_lossy(&ran.words), name);
+    told(report, &due);
+    [slip, of].into_iter().for_each(|kind| report.kind(kind));
+    report.of(kind, ran == seen(&due, None, &nothing) && named, || format!("{wrong:?} with {name} typed wrong, {}", kept(&d, seed, number)));
+}
+
 /// What keeps the program from its work though the delivery is solved: it says so, writes nothing, and leaves every file as it was.
 fn hindered(report: &mut Report, program: &Program, d: &[u8]) {
-    let piped = || [Stdio::piped(), Stdio::piped()];
     let folder = || [File::open(&program.folder).expect("it is laid").into(), Stdio::piped()];
     let full = || [Stdio::piped(), File::create("/dev/full").expect("Linux has it").into()];
     let (long, longer) = ("x".repeat(250), "x".repeat(4001));
@@ -201,7 +240,7 @@ fn linked(report: &mut Report, program: &Program, d: &[u8], object: &[u8]) {
     let mut before = left.clone();
     before.insert("catalogue@".into(), b"catalogue.old".to_vec());
     let due = seen(&Ok(object.to_vec()), Some(OUT), &left);
-    report.of("to a file", program.run(&[OUT], [Stdio::piped(), Stdio::piped()], &before, d) == due, || "a link at OUT".into());
+    report.of("to a file", program.run(&[OUT], piped(), &before, d) == due, || "a link at OUT".into());
 }
 
 pub fn run(count: u64, seed: u64) -> Found {
@@ -215,10 +254,21 @@ pub fn run(count: u64, seed: u64) -> Found {
     tried(&mut report, &program, &d, seed, 0);
     linked(&mut report, &program, &d, line);
     hindered(&mut report, &program, &d);
-    for number in 1..=count / 200 {
+    let each = count / 200;
+    for number in 1..=each {
         let mut d = sound(&mut random);
         damage(&mut random, &mut d);
         tried(&mut report, &program, &d, seed, number);
     }
+    for number in each + 1..=2 * each {
+        mistyped(&mut report, &mut random, &program, seed, number);
+    }
+    for number in 2 * each + 1..=3 * each {
+        let row = near::row(&mut random, 1 + number as u32 % 9);
+        let d = unheard(&mut random, 1 + number as u32 % 40, row);
+        report.kind("rows near a rule");
+        tried(&mut report, &program, &d, seed, number);
+    }
+    report.met(1..=9, 100, count);
     report.close()
 }
