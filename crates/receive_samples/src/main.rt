@@ -48,9 +48,22 @@ fn answered() {
     sample(b"wrong-id");
 }
 
+// One for each part of refusal 4 that a delivery can lead to.
+fn mistyped() {
+    sample(b"typed-j");
+    sample(b"typed-k");
+    sample(b"even-s");
+    sample(b"typed-h");
+    sample(b"typed-w");
+    sample(b"typed-s");
+    sample(b"short-k");
+    sample(b"short-s");
+    sample(b"long-s");
+}
+
 fn not_taken() {
     sample(b"no-alignment");
-    sample(b"bad-row");
+    mistyped();
     sample(b"cut-tables");
     sample(b"cut-head");
     sample(b"empty");

@@ -28,6 +28,7 @@ struct Wish {
     first_repair: u32,
     twice: usize,
     damage: String,
+    row: Option<[u32; 5]>,
     seed: u64,
 }
 
@@ -35,8 +36,14 @@ fn number<N: FromStr<Err: Display>>(option: &str, value: &str) -> Result<N, Stri
     value.parse().map_err(|why| format!("{option} {value}: {why}"))
 }
 
+/// The five numbers of a row, with commas between.
+fn row(option: &str, value: &str) -> Result<[u32; 5], String> {
+    let numbers: Vec<u32> = value.split(',').map(|n| number(option, n)).collect::<Result<_, _>>()?;
+    numbers.try_into().map_err(|_| format!("{option} {value}: it takes five numbers"))
+}
+
 fn wish() -> Result<Wish, Box<dyn Error>> {
-    let mut w = Wish { files: vec![], symbol_size: 64, alignment: 1, lose: 0, repair: 0, first_repair: 0, twice: 0, damage: "none".into(), seed: 1 };
+    let mut w = Wish { files: vec![], symbol_size: 64, alignment: 1, lose: 0, repair: 0, first_repair: 0, twice: 0, damage: "none".into(), row: None, seed: 1 };
     let mut words = std::env::args().skip(1);
     while let Some(word) = words.next() {
         if !word.starts_with("--") {
@@ -52,6 +59,7 @@ fn wish() -> Result<Wish, Box<dyn Error>> {
             "--first-repair" => w.first_repair = number(&word, &value)?,
             "--twice" => w.twice = number(&word, &value)?,
             "--damage" => w.damage = value,
+            "--row" => w.row = Some(row(&word, &value)?),
             "--seed" => w.seed = number(&word, &value)?,
             _ => return Err(format!("there is no option {word}").into()),
         }
@@ -100,7 +108,6 @@ fn damage(w: &Wish, head: &mut [u8], packets: &mut [Vec<u8>], random: &mut Rando
         "empty" => head[..5].fill(0),
         "alignment" => head[11] = 0,
         "blocks" => head[8] = 2,
-        "row" => head[23] ^= 1,
         other => return Err(format!("there is no damage {other}").into()),
     }
     Ok(())
@@ -110,18 +117,18 @@ fn deliver() -> Result<(), Box<dyn Error>> {
     let w = wish()?;
     let object = std::fs::read(&w.files[0]).map_err(|why| format!("{}: {why}", w.files[0]))?;
     let k = object.len().div_ceil(w.symbol_size.into());
-    let row = TABLE_2.iter().find(|row| row.0 as usize >= k).ok_or("one block holds at most 56,403 symbols: take a larger --symbol-size")?;
+    let &(kp, j, s, h, lt) = TABLE_2.iter().find(|row| row.0 as usize >= k).ok_or("one block holds at most 56,403 symbols: take a larger --symbol-size")?;
     let encoder = Encoder::new(&object, ObjectTransmissionInformation::new(object.len() as u64, w.symbol_size, 1, 1, w.alignment));
     let mut random = Random(w.seed.wrapping_mul(0x9E37_79B9_7F4A_7C15) | 1);
     let mut packets = arrivals(&w, &encoder, &mut random)?;
     let mut out = encoder.get_config().serialize().to_vec();
-    for n in [row.0, row.1, row.2, row.3, row.4].into_iter().chain(published()) {
+    for n in w.row.unwrap_or([kp, j, s, h, lt]).into_iter().chain(published()) {
         out.extend(n.to_be_bytes());
     }
     damage(&w, &mut out, &mut packets, &mut random)?;
     out.extend(packets.concat());
     std::fs::write(&w.files[1], &out).map_err(|why| format!("{}: {why}", w.files[1]))?;
-    eprintln!("F {} T {} K {k} K' {}: {} packets, damage: {}, {} bytes", object.len(), w.symbol_size, row.0, packets.len(), w.damage, out.len());
+    eprintln!("F {} T {} K {k} K' {kp}: {} packets, damage: {}, {} bytes", object.len(), w.symbol_size, packets.len(), w.damage, out.len());
     Ok(())
 }
 
