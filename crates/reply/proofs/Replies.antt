@@ -69,7 +69,8 @@ module _ (d : List ℕ) {xs ys us vs : List ℕ} {n : ℕ} (a : Comes d xs ys (T
       (λ k h. getD-take n ys k 0 (omega arith) ∙ object-once d a b k (omega (arith, object-in d a)) ∙ sym (getD-take n vs k 0 (omega arith)))
 
 module _ (d xs us ys vs : List ℕ) (r s : Reply) (f : InStore r ys) (g : InStore s vs) where
-  same-said-of : (v : Verdict) (n : ℕ) (p q : List ℕ) → Comes d xs p (Taken v n) → Comes d us q (Taken v n) → SaidOf n p ys r v → SaidOf n q vs s v → SameStreams r s ys vs
+  same-said-of : (v : Verdict) (n : ℕ) (p q : List ℕ) → Comes d xs p (Taken v n) → Comes d us q (Taken v n) → SaidOf n p ys r v → SaidOf n q vs s v
+      → SameStreams r s ys vs
   same-said-of Solved n p q x y a b =
       let x₁ = subst (λ (m : List ℕ). Comes d xs m (Taken Solved n)) (sym (a .1)) x in
       let y₁ = subst (λ (m : List ℕ). Comes d us m (Taken Solved n)) (sym (b .1)) y in

@@ -44,8 +44,8 @@ part-said Parts.L t = refl
 part-said Parts.Derived t = refl
 
 -- so lines of two parts differ, whatever the numbers
-pub part-once : (p q : Part) (t u : Typed) → rowWords p t ≡ rowWords q u → p ≡ q
-part-once p q t u e = place-only p q (sym (part-said p t) ∙ ap partSaid e ∙ part-said q u)
+pub lines-differ : (p q : Part) (t u : Typed) → rowWords p t ≡ rowWords q u → p ≡ q
+lines-differ p q t u e = place-only p q (sym (part-said p t) ∙ ap partSaid e ∙ part-said q u)
 
 -- a text from the front is a line
 pub lined-line : {ws xs ys : List ℕ} {m n : ℕ} → Lined ws m xs ys 0 n → m ≤ length xs → Line ws xs ys n

@@ -33,8 +33,11 @@ abbrev pub lessWords : Typed → List ℕ
 lessWords t = spelled 20 (t .w) ++ (ascii " - " ++ spelled 20 (t .s))
 
 -- a number between its name and its rule
+abbrev pub stated : List ℕ → ℕ → List ℕ → List ℕ
+stated name x rule = name ++ (spelled 20 x ++ rule)
+
 abbrev pub ruled : String → ℕ → String → List ℕ
-ruled name x rule = ascii name ++ (spelled 20 x ++ ascii rule)
+ruled name x rule = stated (ascii name) x (ascii rule)
 
 -- ---- one sentence a part
 

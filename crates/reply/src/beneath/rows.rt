@@ -4,9 +4,9 @@ ghost use mathlib.Core.List.{_++_};
 ghost use Prim.Native.Nat.{_+_, _-_, _≤_};
 ghost use lib.ListN.{length};
 ghost use Rattle.headers.specs.Quotient.{ceil};
-ghost use Rattle.header_text.specs.Text.{Lined, spelled};
+ghost use Rattle.header_text.specs.Text.{Lined};
 ghost use Rattle.reply.specs.Ascii.{ascii};
-ghost use Rattle.reply.specs.Rows.{bWords, faultWords, lWords, ldpcWords, lessWords, pWords, rowWords, signedWords, sumWords, typedIn, wideWords};
+ghost use Rattle.reply.specs.Rows.{bWords, faultWords, lWords, ldpcWords, lessWords, pWords, rowWords, signedWords, stated, sumWords, typedIn, wideWords};
 ghost use Rattle.reply.specs.Words.{Line};
 use field::refusal;
 use field::refusal::Part;
@@ -188,16 +188,16 @@ fn bands(t: Typed) -> u64
 }
 
 fn too_large(out: &mut [u8], at: usize, label: &[u8], x: u32) -> usize
-    requires { ⌜ at + (length (now label) + 46) ≤ length (now out) ⌝ }
-    ensures { λ r. ⌜ Lined (now (label .entry) ++ (spelled 20 x ++ ascii ", and must be below 65,536")) (length (now (label .entry)) + 46) (now (out .entry)) (now (out .exit)) at r ⌝ }
+    requires { ⌜ (at + 60 ≤ length (now out)) × (length (now label) ≤ 14) ⌝ }
+    ensures { λ r. ⌜ Lined (stated (now (label .entry)) x (ascii ", and must be below 65,536")) 60 (now (out .entry)) (now (out .exit)) at r ⌝ }
 {
     ruled(out, at, label, x, b", and must be below 65,536")
 }
 
 // A number between its name and its rule.
 fn ruled(out: &mut [u8], at: usize, label: &[u8], x: u32, rule: &[u8]) -> usize
-    requires { ⌜ at + (length (now label) + (20 + length (now rule))) ≤ length (now out) ⌝ }
-    ensures { λ r. ⌜ Lined (now (label .entry) ++ (spelled 20 x ++ now (rule .entry))) (length (now (label .entry)) + (20 + length (now (rule .entry)))) (now (out .entry)) (now (out .exit)) at r ⌝ }
+    requires { ⌜ (at + 60 ≤ length (now out)) × (length (now label) + length (now rule) ≤ 40) ⌝ }
+    ensures { λ r. ⌜ Lined (stated (now (label .entry)) x (now (rule .entry))) 60 (now (out .entry)) (now (out .exit)) at r ⌝ }
 {
     let next = numbered(out, at, label, x as u64);
     text(out, next, rule)
