@@ -7,7 +7,7 @@ use native.Mathlib.Nat.{mul-le-mul}
 use native.Mathlib.Omega.{arith}
 use borrow.Author.Tests.{le-ltb, eq-eqb, ne-eqb, lt-leb}
 use lib.ListN.{length, getD, take}
-use lib.Seq.{take-all, length-take-le}
+use lib.Seq.{take-all}
 use Rattle.field.specs.Answer.{given, codeOf}
 use Rattle.field.proofs.Answers.{given-not-refused}
 use Rattle.field.specs.Runs.{Written}
@@ -29,7 +29,7 @@ use Rattle.delivery.specs.Received.{Comes, Concludes, Heard, Holdable, L
 use Rattle.delivery.specs.declared.beneath.receiver.Received.{Received}
 use Rattle.delivery.specs.declared.beneath.receiver.Received.the-variants.{Taken, Stopped}
 use Rattle.delivery.proofs.Lists.{tabulated}
-use Rattle.delivery.proofs.Screening.{Sound, sound, packets-in}
+use Rattle.delivery.proofs.Screening.{Sound, packets-in}
 use Rattle.delivery.proofs.Gathering.{esi-small}
 
 -- what was left for a verdict, under another name of it

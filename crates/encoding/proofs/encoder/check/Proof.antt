@@ -1,12 +1,12 @@
 -- `encoding::encoder::check` meets its contract.
 -- Assumes nothing.
-use mathlib.Core.Path.{_≡_, sym, _∙_, subst}
+use mathlib.Core.Path.{_≡_, sym, ap, _∙_, subst}
 use Prim.Native.Nat.{ℕ, _*_, _≤_, _<_}
 use native.Mathlib.Nat.{mul-le-mul}
 use native.Mathlib.Omega.{arith}
 use borrow.Author.Tests.{le-leb, lt-leb, lt-ltb, le-ltb, eq-eqb, ne-eqb}
 use lib.Dec.{ltb}
-use Rattle.field.specs.Answer.{given, unless}
+use Rattle.field.specs.Answer.{done, given, unless}
 use Rattle.field.proofs.Refusals.{stopped, told}
 use Rattle.headers.specs.Row.{Obeys, lOf}
 use Rattle.headers.proofs.Rules.{obeyed, obeying}
@@ -28,7 +28,7 @@ returns : tie.Need-returns
 returns c =
     let v = c .before .before .verify in
     let e = c .enum-told2 .given .1 in
-    rw e (stopped (v .result) (v .ensures) _ _ e)
+    ap done e ∙ stopped (v .result) (v .ensures) _ _ e
 
 -- past the first test the rules hold
 fine : (c : tie.After-enum-told) → Obeys (c .before .before .before .args .r)

@@ -1,8 +1,10 @@
 -- `solver::solver::may` meets its contract, one refusal after the other.
 -- Assumes nothing.
+use mathlib.Core.Path.{ap, _∙_}
 use native.Mathlib.Nat.{mul-le-mul}
 use native.Mathlib.Omega.{arith}
 use borrow.Author.Tests.{lt-ltb, le-ltb, eq-eqb, ne-eqb}
+use Rattle.field.specs.Answer.{done}
 use Rattle.field.proofs.Refusals.{stopped, told}
 use Rattle.headers.specs.Row.{Obeys}
 use Rattle.headers.proofs.Rules.{obeyed, obeying}
@@ -23,7 +25,7 @@ returns : tie.Need-returns
 returns c =
     let v = c .before .before .verify in
     let e = c .enum-told2 .given .1 in
-    rw e (stopped (v .result) (v .ensures) _ _ e)
+    ap done e ∙ stopped (v .result) (v .ensures) _ _ e
 
 -- past the first test the rules hold
 fine : (c : tie.After-enum-told) → Obeys (c .before .before .before .args .r)
