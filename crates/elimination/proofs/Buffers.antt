@@ -46,6 +46,13 @@ onto-all {w} k s f a x {x₁} h z u = record {
         let q : s + (c - s) ≡ c = omega arith in
         subst (λ (i : ℕ). getD x₁ i 0 ≡ plus (getD x i 0) (times f (cell w a k i))) q (u .part (c - s) (omega arith))
 
+-- the run is all of symbol k
+pub onto-symbol : (t k f : ℕ) (a : List ℕ) {y y₁ : List ℕ} → k * t + t ≤ length a
+    → Written (fused y 0 f (take (k * t + t - k * t) (drop (k * t) a))) y y₁ 0 (length (take (k * t + t - k * t) (drop (k * t) a))) → Onto t k f a y y₁
+onto-symbol t k f a {y} h u =
+    onto-all k 0 f a y (omega arith) (λ b l. absurd (omega arith))
+    (onto-part t k 0 f a (k * t) (k * t + t - k * t) (omega arith) (omega arith) (omega arith) h u)
+
 pub times-by : {g x : ℕ} {d d₁ : List ℕ} → x ≡ g → Written (scaled x d) d d₁ 0 (length d) → Times g d d₁
 times-by {g} {x} {d} e w = written-as w (λ c h. ap (λ (z : ℕ). times z (getD d c 0)) e)
 

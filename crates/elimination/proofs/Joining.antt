@@ -1,6 +1,7 @@
 -- One equation against the held ones: the held rows go off it, and it is held, or says nothing new, or cannot be met.
 -- Assumes nothing.
 use mathlib.Core.Path.{_≡_, refl, sym, ap, ap₂, _∙_}
+use mathlib.Core.Bool.{true, false}
 use mathlib.Core.Logic.{_≢_, _⊎_, inl, inr}
 use mathlib.Core.List.{List}
 use Prim.Native.Nat.{ℕ, _+_, _*_, _≤_, _<_}
@@ -11,9 +12,10 @@ use lib.Bits.{xor-lt}
 use lib.ListN.{length, getD, set, length-set}
 use lib.Seq.{getD-set-same, getD-set-other}
 use Rattle.field.specs.Octet.{plus, times, inverse}
-use Rattle.field.specs.Runs.{FirstOther}
+use Rattle.field.specs.Runs.{zeroFrom}
 use Rattle.field.proofs.Laws.{times-lt, times-zero, times-comm, inverse-times}
 use Rattle.field.proofs.Writing.{written-as}
+use Rattle.field.proofs.Zeros.{each-zero, some-other}
 use Rattle.linear.specs.Field.{Field}
 use Rattle.linear.specs.Index.{Col}
 use Rattle.linear.specs.Span.{InSpan, Within}
@@ -191,8 +193,11 @@ module _ {L T r : ℕ} {ps a d x y x₁ y₁ : List ℕ} (lent : Lent L T r ps a
           (λ e. nz (sym (behind-new T r d y₁ (lent .symbols) b) ∙ e));
     }
 
-  pub take-followed : {c b : ℕ} → Sought L r x₁ c → L ≤ c → FirstOther y₁ 0 T b → T ≤ b → Followed L T r a d x y
-  take-followed q h f l = followed (row-zero q h) (λ k i. f .zeros k (omega arith) (omega arith))
+  pub take-followed : {c : ℕ} → Sought L r x₁ c → L ≤ c → zeroFrom y₁ 0 T ≡ true → Followed L T r a d x y
+  take-followed q h z =
+      followed (row-zero q h) (λ k i. ap (λ (j : ℕ). getD y₁ j 0) (sym (zero-add k)) ∙ each-zero (λ (j : ℕ). getD y₁ (0 + j) 0) T z k i)
 
-  pub take-denied : {c b : ℕ} → Sought L r x₁ c → L ≤ c → FirstOther y₁ 0 T b → b < T → Denied L T r a d x y
-  take-denied {b = b} q h f l = denied (row-zero q h) b l (f .other l)
+  pub take-denied : {c : ℕ} → Sought L r x₁ c → L ≤ c → zeroFrom y₁ 0 T ≡ false → Denied L T r a d x y
+  take-denied q h z =
+      let o = some-other (λ (j : ℕ). getD y₁ (0 + j) 0) T z in
+      denied (row-zero q h) (o .0) (o .1) (λ e. o .2 (ap (λ (j : ℕ). getD y₁ j 0) (zero-add (o .0)) ∙ e))

@@ -10,10 +10,14 @@ use lib.Dec.{ltb}
 use lib.ListN.{length}
 use Rattle.field.specs.Answer.{Outcome, Left, done, given, refused, unless, before}
 use Rattle.field.proofs.Writing.{written-once}
-use Rattle.field.proofs.Refusals.{went-on, stopped, passed, passed-before, told}
+use Rattle.field.specs.Choice.{pick}
+use Rattle.field.proofs.Refusals.{Settled, went-on, stopped, passed, passed-before, told}
 use Rattle.field.specs.declared.refusal.Refusal.{Refusal}
 use Rattle.field.specs.declared.refusal.Answer as Plain
 use Rattle.field.specs.declared.refusal.Answer.the-variants as Plains
+use Rattle.slab.specs.Slab.{changedOutcome}
+use Rattle.slab.specs.declared.symbol_slab.Changed.{Changed}
+use Rattle.exports.specs.Stores.{ToldBy, TellsZero, flag}
 use Rattle.exports.specs.Call.{code, Kept, Called, roomed, thenRoomed, andRoom, listed, single, Listing}
 
 kept-once : (o : Outcome (List ℕ)) (out m n : List ℕ) → Kept o out m → Kept o out n → m ≡ n
@@ -57,9 +61,10 @@ module _ {A : Type 0} (f : A → List ℕ) {o : Outcome A} {out now : List ℕ} 
   called-late e q z = called-as (listed f) e (record { answer = q; memory = z })
 
 -- one value had room
-pub called-one : {now : List ℕ} {r : ℕ} (out : List ℕ) (o : Outcome ℕ) → 1 ≤ length out → Called (thenRoomed out (listed single o)) out now r → Called (listed single o) out now r
-called-one {now} {r} out (given x) h w = subst (λ (b : Bool). Called (unless b 8 (given (single x))) out now r) (le-ltb (length out) 1 h) w
-called-one out (refused n) h w = w
+module _ {A : Type 0} (f : A → ℕ) {now : List ℕ} {r : ℕ} (out : List ℕ) (h : 1 ≤ length out) where
+  pub called-one : (o : Outcome A) → Called (thenRoomed out (listed (λ x. single (f x)) o)) out now r → Called (listed (λ x. single (f x)) o) out now r
+  called-one (given x) w = subst (λ (b : Bool). Called (unless b 8 (given (single (f x)))) out now r) (le-ltb (length out) 1 h) w
+  called-one (refused n) w = w
 
 -- Limits and room for one value were asked first: x told what they are.
 module _ (limits : Outcome (Unit {0})) (out : List ℕ) (x : Plain.Answer) (q : done x ≡ andRoom limits (length out) 1) where
@@ -68,7 +73,7 @@ module _ (limits : Outcome (Unit {0})) (out : List ℕ) (x : Plain.Answer) (q : 
 
   pub called-fit : {now : List ℕ} {r : ℕ} (o : Outcome ℕ) → x ≡ Plains.Done → Called (thenRoomed out (listed single o)) out now r
       → Called (before (andRoom limits (length out) 1) (listed single o)) out now r
-  called-fit o e w = called-as (λ (a : Outcome (List ℕ)). a) (sym (went-on x q (listed single o) e)) (called-one out o (room e) w)
+  called-fit o e w = called-as (λ (a : Outcome (List ℕ)). a) (sym (went-on x q (listed single o) e)) (called-one (λ x. x) out (room e) o w)
 
   pub called-unfit : {r : ℕ} (o : Outcome (List ℕ)) (why : Refusal) → x ≡ Plains.Refused why → r ≡ code (done x)
       → Called (before (andRoom limits (length out) 1) o) out out r
@@ -92,9 +97,45 @@ module _ (limits : Outcome (Unit {0})) (out : List ℕ) (x : Plain.Answer) (q : 
       to : {p : Outcome ℕ} → o ≡ p → Left p list list' (Kept (given l) list list') × Called (listed single p) out now r
       to z = (
         subst (λ (a : Outcome ℕ). Left a list list' (Kept (given l) list list')) z m,
-        subst (λ (a : Outcome ℕ). Called (listed single a) out now r) z (called-one out o (room e) w),
+        subst (λ (a : Outcome ℕ). Called (listed single a) out now r) z (called-one (λ x. x) out (room e) o w),
       )
 
       go : (asked : Outcome (Unit {0})) → o ≡ before asked (given (length l)) → Listing (before asked (given l)) list list' out now r
       go (given u) z = let a = to z in record { places = record { answer = a .1 .answer; memory = a .0 }; told = a .1 }
       go (refused k) z = let a = to z in record { places = record { answer = a .1 .answer; memory = a .0 }; told = a .1 }
+
+  -- a symbol is written by a call of the layer below, and its flag handed over; or nothing is
+  module _ {C : Changed → List ℕ → Type 0} {xs ys now : List ℕ} {r : ℕ} where
+    at-first : (a : Plain.Answer) → x ≡ a → ToldBy (done a) C xs ys out now r → TellsZero limits C xs ys out now r
+    at-first a e w = record { zero = subst (λ (p : Outcome (Unit {0})). ToldBy p C xs ys out now r) (ap done (sym e) ∙ q) w }
+
+    pub zero-told : (below : Changed) → x ≡ Plains.Done → C below ys → Called (thenRoomed out (listed flag (changedOutcome below))) out now r
+        → TellsZero limits C xs ys out now r
+    zero-told below e m w = at-first Plains.Done e (below, m, called-one (λ (z : Bool). pick z 1 0) out (room e) (changedOutcome below) w)
+
+    pub zero-untold : (why : Refusal) → x ≡ Plains.Refused why → r ≡ code (done x) → ys ≡ xs → now ≡ out → TellsZero limits C xs ys out now r
+    zero-untold why e h s m = at-first (Plains.Refused why) e (h ∙ ap (λ (y : Plain.Answer). code (done y)) e, s, m)
+
+-- the same of a call that has no limits
+module _ {C : Changed → List ℕ → Type 0} {xs ys out now : List ℕ} {r : ℕ} where
+  pub zero-short : length out < 1 → r ≡ 8 → ys ≡ xs → now ≡ out → TellsZero (given tt) C xs ys out now r
+  zero-short h e s m = record { zero = rw (lt-ltb (length out) 1 h) (e, s, m) }
+
+  pub zero-roomed : (below : Changed) → 1 ≤ length out → C below ys → Called (thenRoomed out (listed flag (changedOutcome below))) out now r
+      → TellsZero (given tt) C xs ys out now r
+  zero-roomed below h m w =
+      record { zero = rw (le-ltb (length out) 1 h) (below, m, called-one (λ (z : Bool). pick z 1 0) out h (changedOutcome below) w) }
+
+-- two results are the same where those of the layer below are
+module _ {C : Changed → List ℕ → Type 0} (once : Settled C) where
+  by-asked : (p : Outcome (Unit {0})) (xs ys zs out m n : List ℕ) (q r : ℕ) → ToldBy p C xs ys out m q → ToldBy p C xs zs out n r
+      → (q ≡ r) × (ys ≡ zs) × (m ≡ n)
+  by-asked (given _) xs ys zs out m n q r u w =
+      let e = once (u .0) (w .0) ys zs (u .1) (w .1) in
+      let c = called-once (u .2) (called-as (λ (b : Changed). listed flag (changedOutcome b)) (sym (e .0)) (w .2)) in
+      (c .0, e .1, c .1)
+  by-asked (refused k) xs ys zs out m n q r u w = (u .0 ∙ sym (w .0), u .1 ∙ sym (w .1), u .2 ∙ sym (w .2))
+
+  pub zero-told-once : {limits : Outcome (Unit {0})} {xs ys zs out m n : List ℕ} {q r : ℕ} → TellsZero limits C xs ys out m q
+      → TellsZero limits C xs zs out n r → (q ≡ r) × (ys ≡ zs) × (m ≡ n)
+  zero-told-once {limits} {xs} {ys} {zs} {out} {m} {n} {q} {r} u w = by-asked (andRoom limits (length out) 1) xs ys zs out m n q r (u .zero) (w .zero)

@@ -1,17 +1,19 @@
--- Each call of the C interface that is told only by a number is settled by its contract: two results that it allows, the answer and the later content of
--- the store, are the same. Of the others `called-once`, `listing-once` (Calls) and `solving-once` (Solving) say so.
+-- Each call of the C interface that is told only by a number, or tells besides whether a symbol is all 0, is settled by its contract: two results that
+-- it allows, the answer and the later content of what was lent, are the same. Of the others `called-once`, `listing-once` (Calls) and `solving-once`
+-- (Solving) say so.
 -- Assumes nothing.
 use mathlib.Core.Path.{_≡_, sym, ap, _∙_, subst}
 use mathlib.Core.List.{List}
 use Prim.Native.Nat.{ℕ, _+_}
 use lib.ListN.{length}
-use Rattle.field.specs.Answer.{Outcome, Left, Does, done}
+use Rattle.field.specs.Answer.{Outcome, Left, Does, done, given}
 use Rattle.field.specs.Runs.{added, fused, scaled}
-use Rattle.field.proofs.Refusals.{Settled, done-only, settled-written}
+use Rattle.field.proofs.Refusals.{Settled, settled-told}
 use Rattle.headers.specs.Headers.{IdStored, InfoStored, PacketStored}
 use Rattle.headers.specs.Number.{numberOutcome}
 use Rattle.headers.proofs.Answers.{stores-only}
-use Rattle.slab.specs.Slab.{SymbolScaled, SymbolsAdded, SymbolsFused, Zeroed, slabOutcome}
+use Rattle.slab.specs.Slab.{SymbolScaled, SymbolsAdded, SymbolsFused, Zeroed, changedOutcome, slabOutcome}
+use Rattle.slab.specs.declared.symbol_slab.Changed.{Changed}
 use Rattle.slab.proofs.Once as slabs
 use Rattle.stores.specs.Matrix.{Cleared, ColumnsSwapped, EntrySet, Resized, RowsAdded, RowsSwapped, matrixOutcome, shape}
 use Rattle.stores.proofs.Once as matrices
@@ -24,7 +26,8 @@ use Rattle.encoding.proofs.Settled.{encodes-only}
 use Rattle.exports.specs.Call.{Reports, code}
 use Rattle.headers.specs.declared.row.Row.{Row}
 use Rattle.exports.specs.Numbers.{id, info, row, slab, tuple}
-use Rattle.exports.specs.Stores.{RunAdded, RunFused, RunScaled}
+use Rattle.exports.specs.Stores.{RunAdded, RunFused, RunScaled, TellsZero, countable, sameLength}
+use Rattle.exports.proofs.Calls.{zero-told-once}
 
 module _ {R A : Type 0} (of : R → Outcome A) {C : R → List ℕ → Type 0} where
   -- what the layer below settles
@@ -42,14 +45,19 @@ module _ {R A : Type 0} (of : R → Outcome A) {C : R → List ℕ → Type 0} w
 
 -- ---- runs
 
-pub run-add-once : (xs s : List ℕ) → Settled (Reports done (RunAdded xs s))
-run-add-once xs s = reports-once done (settled-written done done-only _ xs (added xs 0 s) 0 (length s))
+-- three things are settled of a call that writes a symbol and tells whether it is all 0: its number, the store and the slice for the flag
+abbrev pub ToldOnce : Outcome (Unit {0}) → (Changed → List ℕ → Type 0) → List ℕ → Type 0
+ToldOnce limits C xs =
+    (out m n ys zs : List ℕ) (q r : ℕ) → TellsZero limits C xs ys out m q → TellsZero limits C xs zs out n r → (q ≡ r) × (ys ≡ zs) × (m ≡ n)
 
-pub run-scale-once : (xs : List ℕ) (c : ℕ) → Settled (Reports done (RunScaled xs c))
-run-scale-once xs c = reports-once done (settled-written done done-only _ xs (scaled c xs) 0 (length xs))
+pub run-add-once : (xs s : List ℕ) → ToldOnce (given tt) (RunAdded xs s) xs
+run-add-once xs s out m n ys zs q r = zero-told-once (settled-told changedOutcome xs (added xs 0 s) 0 (length s) slabs.changed-only (sameLength xs s))
 
-pub run-fma-once : (xs s : List ℕ) (c : ℕ) → Settled (Reports done (RunFused xs s c))
-run-fma-once xs s c = reports-once done (settled-written done done-only _ xs (fused xs 0 c s) 0 (length s))
+pub run-scale-once : (xs : List ℕ) (c : ℕ) → ToldOnce (given tt) (RunScaled xs c) xs
+run-scale-once xs c out m n ys zs q r = zero-told-once (settled-told changedOutcome xs (scaled c xs) 0 (length xs) slabs.changed-only (given tt))
+
+pub run-fma-once : (xs s : List ℕ) (c : ℕ) → ToldOnce (given tt) (RunFused xs s c) xs
+run-fma-once xs s c out m n ys zs q r = zero-told-once (settled-told changedOutcome xs (fused xs 0 c s) 0 (length s) slabs.changed-only (sameLength xs s))
 
 -- ---- symbols
 
@@ -57,14 +65,14 @@ module _ (xs : List ℕ) (count t : ℕ) where
   pub slab-with-zeros-once : Settled (Reports slabOutcome (Zeroed xs count t))
   slab-with-zeros-once = reports-once slabOutcome (slabs.with-zeros-once xs count t)
 
-  pub slab-add-assign-once : (order : List ℕ) (dest src : ℕ) → Settled (Reports done (SymbolsAdded xs (slab count t) order dest src))
-  slab-add-assign-once order dest src = reports-once done (slabs.add-assign-once xs (slab count t) order dest src)
+  pub slab-add-assign-once : (order : List ℕ) (dest src : ℕ) → ToldOnce (countable count) (SymbolsAdded xs (slab count t) order dest src) xs
+  slab-add-assign-once order dest src out m n ys zs q r = zero-told-once (slabs.add-assign-once xs (slab count t) order dest src)
 
-  pub slab-mulassign-scalar-once : (order : List ℕ) (dest c : ℕ) → Settled (Reports done (SymbolScaled xs (slab count t) order dest c))
-  slab-mulassign-scalar-once order dest c = reports-once done (slabs.mulassign-scalar-once xs (slab count t) order dest c)
+  pub slab-mulassign-scalar-once : (order : List ℕ) (dest c : ℕ) → ToldOnce (countable count) (SymbolScaled xs (slab count t) order dest c) xs
+  slab-mulassign-scalar-once order dest c out m n ys zs q r = zero-told-once (slabs.mulassign-scalar-once xs (slab count t) order dest c)
 
-  pub slab-fma-once : (order : List ℕ) (dest src c : ℕ) → Settled (Reports done (SymbolsFused xs (slab count t) order dest src c))
-  slab-fma-once order dest src c = reports-once done (slabs.fma-once xs (slab count t) order dest src c)
+  pub slab-fma-once : (order : List ℕ) (dest src c : ℕ) → ToldOnce (countable count) (SymbolsFused xs (slab count t) order dest src c) xs
+  slab-fma-once order dest src c out m n ys zs q r = zero-told-once (slabs.fma-once xs (slab count t) order dest src c)
 
 -- ---- matrices
 

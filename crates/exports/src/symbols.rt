@@ -1,12 +1,17 @@
 // Symbols in lent bytes (document 01, 'Matrices and slab'): `count` symbols of t bytes, an order of length 0 or the count.
+ghost use mathlib.Core.Path.{_≡_};
 ghost use lib.Dec.{ltb};
 ghost use Rattle.field.specs.Answer.{done, unless};
 ghost use Rattle.slab.specs.Slab.{SymbolScaled, SymbolsAdded, SymbolsFused, Zeroed, rangeOf, slabOutcome};
-ghost use Rattle.exports.specs.Call.{Called, Reports, listed, roomed};
+ghost use Rattle.exports.specs.Call.{Called, Reports, andRoom, listed, roomed};
 ghost use Rattle.exports.specs.Numbers.{bounds, slab};
+ghost use Rattle.exports.specs.Stores.{TellsZero, countable};
 use crate::values::hand;
+use crate::values::hand_zero;
 use crate::values::told;
 use crate::values::told_slab;
+use field::refusal::Answer;
+use field::refusal::Refusal;
 use field::refusal::code;
 use slab::symbol_slab;
 use slab::symbol_slab::Range;
@@ -47,7 +52,20 @@ pub extern "C" fn spoonripple_slab_locate(
     }
 }
 
-// The bytes of `src` are added to those of `dest`.
+// A count out of range (2) comes before an `out` without room (8), and that before what lies outside (6).
+fn fits(count: usize, room: usize) -> Answer
+    ensures { λ r. ⌜ done r ≡ andRoom (countable count) room 1 ⌝ }
+{
+    if 131070 < count {
+        return Answer::Refused(Refusal::OutOfRange);
+    }
+    if room < 1 {
+        return Answer::Refused(Refusal::WrongLength);
+    }
+    Answer::Done
+}
+
+// The bytes of `src` are added to those of `dest`. Value of this and the next two: 1 where all of `dest` is 0 now, else 0 (document 02, E5).
 #[no_mangle]
 pub extern "C" fn spoonripple_slab_add_assign(
     store: &mut [u8],
@@ -56,11 +74,17 @@ pub extern "C" fn spoonripple_slab_add_assign(
     order: &[u32],
     dest: usize,
     src: usize,
+    out: &mut [u64],
 ) -> u32
-    ensures { λ r. ⌜ Reports done (SymbolsAdded (now (store .entry)) (slab count t) (now (order .entry)) dest src) r (now (store .exit)) ⌝ }
+    ensures { λ r. ⌜ TellsZero (countable count) (SymbolsAdded (now (store .entry)) (slab count t) (now (order .entry)) dest src)
+        (now (store .entry)) (now (store .exit)) (now (out .entry)) (now (out .exit)) r ⌝ }
 {
+    let fine = fits(count, out.len());
+    let Answer::Done = fine else {
+        return told(fine);
+    };
     let slab = SymbolSlab { count, size: t };
-    told(symbol_slab::add_assign(store, slab, order, dest, src))
+    hand_zero(symbol_slab::add_assign(store, slab, order, dest, src), out)
 }
 
 // Each byte of `dest` is multiplied by `scalar`.
@@ -72,11 +96,20 @@ pub extern "C" fn spoonripple_slab_mulassign_scalar(
     order: &[u32],
     dest: usize,
     scalar: u8,
+    out: &mut [u64],
 ) -> u32
-    ensures { λ r. ⌜ Reports done (SymbolScaled (now (store .entry)) (slab count t) (now (order .entry)) dest scalar) r (now (store .exit)) ⌝ }
+    ensures { λ r. ⌜ TellsZero (countable count) (SymbolScaled (now (store .entry)) (slab count t) (now (order .entry)) dest scalar)
+        (now (store .entry)) (now (store .exit)) (now (out .entry)) (now (out .exit)) r ⌝ }
 {
+    let fine = fits(count, out.len());
+    let Answer::Done = fine else {
+        return told(fine);
+    };
     let slab = SymbolSlab { count, size: t };
-    told(symbol_slab::mulassign_scalar(store, slab, order, dest, scalar))
+    hand_zero(
+        symbol_slab::mulassign_scalar(store, slab, order, dest, scalar),
+        out,
+    )
 }
 
 // The bytes of `src`, multiplied by `scalar`, are added to those of `dest`.
@@ -89,9 +122,15 @@ pub extern "C" fn spoonripple_slab_fma(
     dest: usize,
     src: usize,
     scalar: u8,
+    out: &mut [u64],
 ) -> u32
-    ensures { λ r. ⌜ Reports done (SymbolsFused (now (store .entry)) (slab count t) (now (order .entry)) dest src scalar) r (now (store .exit)) ⌝ }
+    ensures { λ r. ⌜ TellsZero (countable count) (SymbolsFused (now (store .entry)) (slab count t) (now (order .entry)) dest src scalar)
+        (now (store .entry)) (now (store .exit)) (now (out .entry)) (now (out .exit)) r ⌝ }
 {
+    let fine = fits(count, out.len());
+    let Answer::Done = fine else {
+        return told(fine);
+    };
     let slab = SymbolSlab { count, size: t };
-    told(symbol_slab::fma(store, slab, order, dest, src, scalar))
+    hand_zero(symbol_slab::fma(store, slab, order, dest, src, scalar), out)
 }

@@ -4,16 +4,18 @@ ghost use mathlib.Core.List.{[], _∷_};
 ghost use lib.ListN.{length};
 ghost use Rattle.field.specs.Answer.{done, given, octetOutcome};
 ghost use Rattle.headers.specs.Number.{numberOutcome};
-ghost use Rattle.slab.specs.Slab.{slabOutcome};
+ghost use Rattle.slab.specs.Slab.{changedOutcome, slabOutcome};
 ghost use Rattle.stores.specs.Matrix.{counted, matrixOutcome};
 ghost use Rattle.exports.specs.Call.{Called, code, listed, single, roomed, thenRoomed};
 ghost use Rattle.exports.specs.Numbers.{row};
+ghost use Rattle.exports.specs.Stores.{flag};
 use field::octet;
 use field::refusal::Answer;
 use field::refusal::code;
 use headers::number::Number;
 use headers::row::Row;
 use slab::symbol_slab;
+use slab::symbol_slab::Changed;
 use stores::matrix;
 use stores::matrix::Count;
 
@@ -118,5 +120,15 @@ pub fn hand_count(c: Count, out: &mut [u64]) -> u32
     match c {
         Count::Ones(n) => hand_one(n as u64, out),
         Count::Refused(why) => code(why),
+    }
+}
+
+// Whether a symbol is all 0 now.
+pub fn hand_zero(c: Changed, out: &mut [u64]) -> u32
+    ensures { λ r. ⌜ Called (thenRoomed (now (out .entry)) (listed flag (changedOutcome c))) (now (out .entry)) (now (out .exit)) r ⌝ }
+{
+    match c {
+        Changed::AllZero(zero) => hand_one(zero as u64, out),
+        Changed::Refused(why) => code(why),
     }
 }

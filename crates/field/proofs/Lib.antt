@@ -4,6 +4,7 @@ pub mod Xor
 pub mod Laws
 pub mod Sums
 pub mod Writing
+pub mod Zeros
 pub mod Parts
 pub mod Answers
 pub mod Refusals

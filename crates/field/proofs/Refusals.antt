@@ -4,13 +4,14 @@ use mathlib.Core.Path.{_≡_, refl, sym, ap, _∙_, subst}
 use mathlib.Core.Bool.{Bool, true, false}
 use mathlib.Core.List.{List}
 use Prim.Native.Nat.{ℕ}
-use Rattle.field.specs.Answer.{Outcome, given, refused, unless, before, Left, Does, done, codeOf}
-use Rattle.field.specs.Runs.{Written}
+use Rattle.field.specs.Answer.{Outcome, given, refused, unless, before, Left, Does, Tells, done, codeOf}
+use Rattle.field.specs.Runs.{Written, allZero}
 use Rattle.field.specs.declared.refusal.Refusal.{Refusal}
 use Rattle.field.specs.declared.refusal.Answer as Plain
 use Rattle.field.specs.declared.refusal.Answer.the-variants as Plains
 use Rattle.field.proofs.Answers.{given-not-refused, named-code, answerOf, answer-only}
 use Rattle.field.proofs.Writing.{written-once}
+use Rattle.field.proofs.Zeros.{zero-written}
 
 -- no refusal: the test failed, and what follows refuses nothing either
 pub passed : {A : Type 0} (b : Bool) (n : ℕ) (o : Outcome A) (a : A) → unless b n o ≡ given a → (b ≡ false) × (o ≡ given a)
@@ -63,3 +64,15 @@ module _ {R A : Type 0} (of : R → Outcome A) (only : (a b : R) → of a ≡ of
   -- of a call that writes f to the n places from `at` on
   pub settled-written : (f : ℕ → ℕ) (at n : ℕ) → Settled (Does of o xs (λ ys. Written f xs ys at n))
   settled-written f at n = settled (λ ys. Written f xs ys at n) (λ ys zs u v. written-once u v)
+
+-- of a call that writes f to them and tells whether they are all 0 now: what it tells of the bytes is so of f
+module _ {R : Type 0} (of : R → Outcome Bool) (xs : List ℕ) (f : ℕ → ℕ) (at n : ℕ) where
+  by-rule : (o : Outcome (Unit {0})) (r : R) (ys : List ℕ) → Tells of o xs f at n r ys → of r ≡ before o (given (allZero f n))
+  by-rule (given _) r ys u =
+      let w = subst (λ (p : Outcome Bool). Left p xs ys (Written f xs ys at n)) (u .0) (u .1) in
+      u .0 ∙ ap given (sym (zero-written w))
+  by-rule (refused k) r ys u = u .0
+
+  pub settled-told : ((a b : R) → of a ≡ of b → a ≡ b) → (o : Outcome (Unit {0})) → Settled (Tells of o xs f at n)
+  settled-told only o a b ys zs u v =
+      settled-written of only (before o (given (allZero f n))) xs f at n a b ys zs (by-rule o a ys u, u .1) (by-rule o b zs v, v .1)

@@ -7,6 +7,7 @@ use mathlib.Core.List.{List}
 use Prim.Native.Nat.{ℕ, _+_, _*_, _/_, _%_}
 use lib.Dec.{eqb, ltb}
 use Rattle.field.specs.Octet.{power, over}
+use Rattle.field.specs.Runs.{Written, zeroFrom}
 use Rattle.field.specs.declared.refusal.Part.{Part}
 use Rattle.field.specs.declared.refusal.Part.the-variants as Parts
 use Rattle.field.specs.declared.refusal.Refusal.{Refusal}
@@ -38,6 +39,11 @@ Left (refused n) xs ys P = ys ≡ xs
 -- what a call that may refuse and may write does: its answer r stands for o, and memory is as it was or as P says
 abbrev pub Does : {R A : Type 0} → (R → Outcome A) → Outcome A → List ℕ → (List ℕ → Type 0) → R → List ℕ → Type 0
 Does of o xs P r ys = (of r ≡ o) × Left (of r) xs ys (P ys)
+
+-- What a call that writes a symbol does (document 02, E5): where o does not refuse, the n places from `at` on are written as f says, and the answer is
+-- whether they are all 0 now.
+abbrev pub Tells : {R : Type 0} → (R → Outcome Bool) → Outcome (Unit {0}) → List ℕ → (ℕ → ℕ) → (at n : ℕ) → R → List ℕ → Type 0
+Tells of o xs f at n r ys = Does of (before o (given (zeroFrom ys at n))) xs (λ zs. Written f xs zs at n) r ys
 
 -- document 01, 'Refusal numbers'
 abbrev pub numberOf : Refusal → ℕ

@@ -1,10 +1,13 @@
 -- Runs of octets, place by place, and what a call leaves in the memory that it was lent.
 -- Assumes nothing.
 use mathlib.Core.Path.{_≡_}
+use mathlib.Core.Bool.{Bool, true}
 use mathlib.Core.List.{List}
 use mathlib.Core.Logic.{_⊎_, _≢_}
-use Prim.Native.Nat.{ℕ, _+_, _≤_, _<_}
+use Prim.Native.Nat.{ℕ, zero, suc, _+_, _≤_, _<_}
+use lib.Dec.{eqb}
 use lib.ListN.{length, getD, take, drop}
+use Rattle.field.specs.Choice.{both}
 use Rattle.field.specs.Octet.{plus, times}
 
 -- ys is xs, but that the n places from `at` on hold f 0, f 1, .. : the one word of all layers for memory that was written
@@ -33,6 +36,15 @@ scaled c d k = times c (getD d k 0)
 
 abbrev pub fused : List ℕ → ℕ → ℕ → List ℕ → ℕ → ℕ
 fused d at c s k = plus (getD d (at + k) 0) (times c (getD s k 0))
+
+-- document 02, E5: whether the n octets f 0, f 1, .. are all 0; where there is none, they are
+unfoldable pub allZero : (ℕ → ℕ) → ℕ → Bool
+allZero f zero = true
+allZero f (suc n) = both (allZero f n) (eqb (f n) 0)
+
+-- whether the n places of xs from `at` on hold only 0
+abbrev pub zeroFrom : List ℕ → ℕ → ℕ → Bool
+zeroFrom xs at n = allZero (λ k. getD xs (at + k) 0) n
 
 -- no octet of xs is larger than m
 abbrev pub AtMost : ℕ → List ℕ → Type 0

@@ -6,13 +6,14 @@ use mathlib.Core.List.{List}
 use Prim.Native.Nat.{ℕ, _+_, _*_, _<_}
 use lib.Dec.{eqb, ltb, leb}
 use lib.ListN.{length, getD}
-use Rattle.field.specs.Answer.{Outcome, given, refused, unless, before, Does, done, codeOf}
+use Rattle.field.specs.Answer.{Outcome, given, refused, unless, before, Does, Tells, codeOf}
 use Rattle.field.specs.Choice.{pick, both}
 use Rattle.field.specs.Runs.{Written, part, added, fused, scaled}
-use Rattle.field.specs.declared.refusal.Answer.{Answer}
 use Rattle.slab.specs.declared.symbol_slab.SymbolSlab.{SymbolSlab}
 use Rattle.slab.specs.declared.symbol_slab.Made.{Made}
 use Rattle.slab.specs.declared.symbol_slab.Made.the-variants as Mades
+use Rattle.slab.specs.declared.symbol_slab.Changed.{Changed}
+use Rattle.slab.specs.declared.symbol_slab.Changed.the-variants as Changes
 use Rattle.slab.specs.declared.symbol_slab.Range.{Range}
 use Rattle.slab.specs.declared.symbol_slab.Range.the-variants as Ranges
 
@@ -62,6 +63,10 @@ abbrev pub rangeOutcome : Range → Outcome (ℕ × ℕ)
 rangeOutcome (Ranges.Bytes start end) = given (start, end)
 rangeOutcome (Ranges.Refused why) = refused (codeOf why)
 
+abbrev pub changedOutcome : Changed → Outcome Bool
+changedOutcome (Changes.AllZero zero) = given zero
+changedOutcome (Changes.Refused why) = refused (codeOf why)
+
 abbrev pub slabOutcome : Made → Outcome SymbolSlab
 slabOutcome (Mades.Slab slab) = given slab
 slabOutcome (Mades.Refused why) = refused (codeOf why)
@@ -73,17 +78,17 @@ Zeroed xs count t =
     Does slabOutcome (unless (ltb 131070 count) 2 (unless (ltb (length xs) (count * t)) 8 (given record { count = count; size = t }))) xs
     (λ ys. Written (λ k. 0) xs ys 0 (count * t))
 
-abbrev pub SymbolsAdded : List ℕ → SymbolSlab → List ℕ → ℕ → ℕ → Answer → List ℕ → Type 0
+abbrev pub SymbolsAdded : List ℕ → SymbolSlab → List ℕ → ℕ → ℕ → Changed → List ℕ → Type 0
 SymbolsAdded xs slab order dest src =
-    Does done (addressablePair (length xs) (slab .count) (slab .size) order dest src) xs
-    (λ ys. Written (added xs (start slab order dest) (symbol slab order src xs)) xs ys (start slab order dest) (slab .size))
+    Tells changedOutcome (addressablePair (length xs) (slab .count) (slab .size) order dest src) xs
+    (added xs (start slab order dest) (symbol slab order src xs)) (start slab order dest) (slab .size)
 
-abbrev pub SymbolScaled : List ℕ → SymbolSlab → List ℕ → ℕ → ℕ → Answer → List ℕ → Type 0
+abbrev pub SymbolScaled : List ℕ → SymbolSlab → List ℕ → ℕ → ℕ → Changed → List ℕ → Type 0
 SymbolScaled xs slab order dest c =
-    Does done (addressable (length xs) (slab .count) (slab .size) order dest) xs
-    (λ ys. Written (scaled c (symbol slab order dest xs)) xs ys (start slab order dest) (slab .size))
+    Tells changedOutcome (addressable (length xs) (slab .count) (slab .size) order dest) xs
+    (scaled c (symbol slab order dest xs)) (start slab order dest) (slab .size)
 
-abbrev pub SymbolsFused : List ℕ → SymbolSlab → List ℕ → ℕ → ℕ → ℕ → Answer → List ℕ → Type 0
+abbrev pub SymbolsFused : List ℕ → SymbolSlab → List ℕ → ℕ → ℕ → ℕ → Changed → List ℕ → Type 0
 SymbolsFused xs slab order dest src c =
-    Does done (addressablePair (length xs) (slab .count) (slab .size) order dest src) xs
-    (λ ys. Written (fused xs (start slab order dest) c (symbol slab order src xs)) xs ys (start slab order dest) (slab .size))
+    Tells changedOutcome (addressablePair (length xs) (slab .count) (slab .size) order dest src) xs
+    (fused xs (start slab order dest) c (symbol slab order src xs)) (start slab order dest) (slab .size)

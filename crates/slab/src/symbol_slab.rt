@@ -1,6 +1,7 @@
 // Ported from symbol_slab.rs of raptorq 2.0.1 (Apache-2.0) and changed.
 // Symbols in lent bytes. A logical symbol i is the T bytes from place p · T on, where p is what
-// the order says of i, and i itself if the order is empty. Each call is given the slab's numbers, its bytes and its order.
+// the order says of i, and i itself if the order is empty. Each call is given the slab's numbers, its bytes and its order; one that writes a symbol
+// tells whether that is all 0 now.
 ghost use mathlib.Core.Path.{_≡_};
 ghost use lib.ListN.{length};
 ghost use Rattle.field.specs.Answer.{done};
@@ -19,6 +20,12 @@ pub struct SymbolSlab {
 
 pub enum Made {
     Slab(SymbolSlab),
+    Refused(Refusal),
+}
+
+// Whether the bytes of a symbol that was written are all 0 now.
+pub enum Changed {
+    AllZero(bool),
     Refused(Refusal),
 }
 
@@ -138,21 +145,21 @@ pub fn add_assign(
     order: &[u32],
     dest: usize,
     src: usize,
-) -> Answer
+) -> Changed
     ensures { λ r. ⌜ SymbolsAdded (now (store .entry)) slab (now (order .entry)) dest src r (now (store .exit)) ⌝ }
 {
     let may = pair(store.len(), slab.count, slab.size, order, dest, src);
-    let Answer::Done = may else {
-        return may;
-    };
+    if let Answer::Refused(why) = may {
+        return Changed::Refused(why);
+    }
     let t = slab.size as usize;
-    symbols::add(
+    let zero = symbols::add(
         store,
         t,
         physical_index(order, dest) * t,
         physical_index(order, src) * t,
     );
-    Answer::Done
+    Changed::AllZero(zero)
 }
 
 // Each byte of `dest` is multiplied by `scalar`.
@@ -162,16 +169,16 @@ pub fn mulassign_scalar(
     order: &[u32],
     dest: usize,
     scalar: u8,
-) -> Answer
+) -> Changed
     ensures { λ r. ⌜ SymbolScaled (now (store .entry)) slab (now (order .entry)) dest scalar r (now (store .exit)) ⌝ }
 {
     let may = place(store.len(), slab.count, slab.size, order, dest);
-    let Answer::Done = may else {
-        return may;
-    };
+    if let Answer::Refused(why) = may {
+        return Changed::Refused(why);
+    }
     let t = slab.size as usize;
-    symbols::scale(store, t, physical_index(order, dest) * t, scalar);
-    Answer::Done
+    let zero = symbols::scale(store, t, physical_index(order, dest) * t, scalar);
+    Changed::AllZero(zero)
 }
 
 // The bytes of `src`, multiplied by `scalar`, are added to those of `dest`.
@@ -182,20 +189,20 @@ pub fn fma(
     dest: usize,
     src: usize,
     scalar: u8,
-) -> Answer
+) -> Changed
     ensures { λ r. ⌜ SymbolsFused (now (store .entry)) slab (now (order .entry)) dest src scalar r (now (store .exit)) ⌝ }
 {
     let may = pair(store.len(), slab.count, slab.size, order, dest, src);
-    let Answer::Done = may else {
-        return may;
-    };
+    if let Answer::Refused(why) = may {
+        return Changed::Refused(why);
+    }
     let t = slab.size as usize;
-    symbols::fma(
+    let zero = symbols::fma(
         store,
         t,
         physical_index(order, dest) * t,
         physical_index(order, src) * t,
         scalar,
     );
-    Answer::Done
+    Changed::AllZero(zero)
 }

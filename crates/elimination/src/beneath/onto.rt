@@ -1,8 +1,10 @@
 // A row or a symbol in a buffer of its own, with a row or a symbol of a store.
+ghost use mathlib.Core.Bool.{true};
 ghost use mathlib.Core.Path.{_≡_};
 ghost use Prim.Native.Nat.{ℕ, _+_, _*_, _≤_, _<_};
 ghost use lib.ListN.{length, getD};
 ghost use Rattle.field.specs.Octet as octets;
+ghost use Rattle.field.specs.Runs.{zeroFrom};
 ghost use Rattle.elimination.specs.Taking.{Onto, OntoFrom, Times};
 use field::beneath::runs;
 use field::octet;
@@ -29,34 +31,30 @@ fn add_row(dst: &mut [u8], store: &[u8], l: usize, k: usize, s: usize, f: u8)
     runs::fma_row(dst, s, &store[first..last], f);
 }
 
-// f times symbol k of the store goes onto dst.
-fn add_symbol(dst: &mut [u8], store: &[u8], t: usize, k: usize, f: u8)
-    requires { ⌜ (length (now dst) ≡ t) × (k * t + t ≤ length (now store)) ⌝ }
-    ensures { λ _. ⌜ Onto t k f (now (store .entry)) (now (dst .entry)) (now (dst .exit)) ⌝ }
-{
-    let first = k * t;
-    let last = first + t;
-    runs::fma_symbol(dst, 0, &store[first..last], f);
-}
-
-// Row k of both stores goes off the equation, by what that has in column c, where the row has its pivot.
-pub fn take_off(
-    rows: &[u8],
-    values: &[u8],
-    l: usize,
-    t: usize,
-    k: usize,
-    c: usize,
-    row: &mut [u8],
-    symbol: &mut [u8],
-)
-    requires { ⌜ (length (now row) ≡ l) × (length (now symbol) ≡ t) × (k * l + l ≤ length (now rows)) × (k * t + t ≤ length (now values)) × (c < l) ⌝ }
-    ensures { λ _. ⌜ ((s : ℕ) × (s ≤ c) × OntoFrom l k s (getD (now (row .entry)) c 0) (now (rows .entry)) (now (row .entry)) (now (row .exit))) ⌝ }
-    ensures { λ _. ⌜ Onto t k (getD (now (row .entry)) c 0) (now (values .entry)) (now (symbol .entry)) (now (symbol .exit)) ⌝ }
+// Row k of the store, which has its pivot in column c, goes off the row. The answer is the factor: what the row had there.
+pub fn take_off(rows: &[u8], l: usize, k: usize, c: usize, row: &mut [u8]) -> u8
+    requires { ⌜ (length (now row) ≡ l) × (k * l + l ≤ length (now rows)) × (c < l) ⌝ }
+    ensures { λ f. ⌜ f ≡ getD (now (row .entry)) c 0 ⌝ }
+    ensures { λ f. ⌜ ((s : ℕ) × (s ≤ c) × OntoFrom l k s f (now (rows .entry)) (now (row .entry)) (now (row .exit))) ⌝ }
 {
     let f = row[c];
     add_row(row, rows, l, k, begin(l, c), f);
-    add_symbol(symbol, values, t, k, f);
+    f
+}
+
+// f times symbol k of the store goes onto dst. Where that is asked, the answer is whether dst is all 0 now.
+pub fn add_symbol(dst: &mut [u8], store: &[u8], t: usize, k: usize, f: u8, asked: bool) -> bool
+    requires { ⌜ (length (now dst) ≡ t) × (k * t + t ≤ length (now store)) ⌝ }
+    ensures { λ _. ⌜ Onto t k f (now (store .entry)) (now (dst .entry)) (now (dst .exit)) ⌝ }
+    ensures { λ zero. ⌜ (asked ≡ true → zero ≡ zeroFrom (now (dst .exit)) 0 t) ⌝ }
+{
+    let first = k * t;
+    let last = first + t;
+    if asked {
+        return runs::fma_symbol(dst, 0, &store[first..last], f);
+    }
+    runs::fuse(dst, 0, &store[first..last], f);
+    false
 }
 
 fn inverse(x: u8) -> u8

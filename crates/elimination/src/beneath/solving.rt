@@ -55,8 +55,11 @@ fn advance(
         → Gone l t (i + 1) (now (pivots .exit)) a₀ d₀ (now (rows .exit)) (now (values .exit)) p) ⌝ }
 {
     rows::copy_row(rows, row, l, 0, i);
-    rows::copy_row(values, symbol, t, 0, i);
-    held_now(r, taking::take(rows, values, pivots, l, t, r, row, symbol))
+    let laid = rows::lay_symbol(values, symbol, t, i);
+    held_now(
+        r,
+        taking::take(rows, values, pivots, l, t, r, row, symbol, laid),
+    )
 }
 
 // Takes all m equations.

@@ -2,6 +2,7 @@
 ghost use mathlib.Core.Path.{_≡_};
 ghost use Prim.Native.Nat.{_+_, _≤_, _<_};
 ghost use lib.ListN.{length};
+ghost use Rattle.field.specs.Runs.{zeroFrom};
 ghost use Rattle.linear.specs.Elimination.{Stepped};
 ghost use Rattle.elimination.specs.Steps.{column};
 ghost use Rattle.elimination.specs.Taking.{Lent, Wide, RoomForOne, Swept, Sought, PutIn, Lodged, Became};
@@ -16,7 +17,8 @@ pub enum Taken {
     Clash,
 }
 
-// The held rows go off the equation, so that it is 0 at their pivots.
+// The held rows go off the equation, so that it is 0 at their pivots. Whether its symbol was all 0 is known, and whether it is then is what the last sum
+// told, which alone is asked: the symbol is not looked at again.
 fn sift(
     rows: &[u8],
     values: &[u8],
@@ -26,18 +28,24 @@ fn sift(
     r: usize,
     row: &mut [u8],
     symbol: &mut [u8],
-)
-    requires { ⌜ Lent l t r (now pivots) (now rows) (now values) × Wide l t (now row) (now symbol) ⌝ }
+    laid: bool,
+) -> bool
+    requires { ⌜ Lent l t r (now pivots) (now rows) (now values) × Wide l t (now row) (now symbol) × (laid ≡ zeroFrom (now symbol) 0 t) ⌝ }
     ensures { λ _. ⌜ Wide l t (now (row .exit)) (now (symbol .exit)) ⌝ }
+    ensures { λ zero. ⌜ zero ≡ zeroFrom (now (symbol .exit)) 0 t ⌝ }
     ensures { λ _. ⌜ (Stepped l r (column (now (pivots .entry))) (now (rows .entry)) (now (values .entry))
         → Swept l t r r (now (pivots .entry)) (now (rows .entry)) (now (values .entry))
         (now (row .entry)) (now (symbol .entry)) (now (row .exit)) (now (symbol .exit))) ⌝ }
 {
+    let mut zero = laid;
     let mut k = rows::next_pivot(row, pivots, 0, r);
     while k < r {
-        onto::take_off(rows, values, l, t, k, pivots[k] as usize, row, symbol);
-        k = rows::next_pivot(row, pivots, k + 1, r);
+        let f = onto::take_off(rows, l, k, pivots[k] as usize, row);
+        let next = rows::next_pivot(row, pivots, k + 1, r);
+        zero = onto::add_symbol(symbol, values, t, k, f, next >= r);
+        k = next;
     }
+    zero
 }
 
 // The first column in which the row is not 0, or l. There is none once l rows are held.
@@ -75,7 +83,7 @@ fn hold(
 }
 
 // Takes the equation that stands in `row` and `symbol`, which are scratch afterwards: it is held in place r, or it says what the held ones say,
-// or they contradict it.
+// or they contradict it. `laid` is whether its symbol is all 0, which what laid it there has told.
 pub fn take(
     rows: &mut [u8],
     values: &mut [u8],
@@ -85,22 +93,22 @@ pub fn take(
     r: usize,
     row: &mut [u8],
     symbol: &mut [u8],
+    laid: bool,
 ) -> Taken
-    requires { ⌜ Lent l t r (now pivots) (now rows) (now values) × Wide l t (now row) (now symbol) ⌝ }
+    requires { ⌜ Lent l t r (now pivots) (now rows) (now values) × Wide l t (now row) (now symbol) × (laid ≡ zeroFrom (now symbol) 0 t) ⌝ }
     requires { ⌜ (r ≤ l) × (l ≤ 65535) × (r < l → RoomForOne l t r (now pivots) (now rows) (now values)) ⌝ }
     ensures { λ x. ⌜ Became l t r (now (pivots .entry)) (now (rows .entry)) (now (values .entry)) (now (row .entry)) (now (symbol .entry))
         (now (pivots .exit)) (now (rows .exit)) (now (values .exit)) x ⌝ }
 {
-    sift(rows, values, pivots, l, t, r, row, symbol);
+    let zero = sift(rows, values, pivots, l, t, r, row, symbol, laid);
     let c = seek(row, l, r);
     if c < l {
         hold(rows, values, pivots, l, t, r, row, symbol, c);
         return Taken::Held;
     }
     // The row depends on those that are held: the symbol has to be what they make of it.
-    let y = runs::first_other(symbol, 0, t);
-    if y < t {
-        return Taken::Clash;
+    if zero {
+        return Taken::Dependent;
     }
-    Taken::Dependent
+    Taken::Clash
 }

@@ -1,10 +1,12 @@
-// The octets' arithmetic on runs of bytes, place by place: every sum and product of symbols is made here. And the search for an octet that is not 0.
-// Products are by doubling, which compiles to vector code; a table would be built anew in the frame of each call.
+// The octets' arithmetic on runs of bytes, place by place: the sums and products of symbols are made here, and `add`, `scale` and `fma` tell whether the
+// places that they wrote are all 0 now. And the search for an octet that is not 0, in a row of coefficients.
+// Products are by doubling, which compiles to vector code, as the gathering of what was written does, by `|` into one octet; a table would be built anew in
+// the frame of each call.
 ghost use mathlib.Core.Path.{_≡_};
 ghost use Prim.Native.Nat.{_+_, _<_, _≤_};
 ghost use lib.ListN.{length};
 ghost use Rattle.field.specs.Octet.{times};
-ghost use Rattle.field.specs.Runs.{AtMost, Blank, FirstOther, Written, added, fused, scaled};
+ghost use Rattle.field.specs.Runs.{AtMost, Blank, FirstOther, Written, added, fused, scaled, zeroFrom};
 use crate::doubling;
 
 // 0 at n places, from place `at` of dst on
@@ -20,38 +22,53 @@ pub fn clear(dst: &mut [u8], at: usize, n: usize)
 }
 
 // dst + src, from place `at` of dst on
-pub fn add(dst: &mut [u8], at: usize, src: &[u8])
+pub fn add(dst: &mut [u8], at: usize, src: &[u8]) -> bool
     requires { ⌜ at + length (now src) ≤ length (now dst) ⌝ }
-    ensures { λ r. ⌜ Written (added (now (dst .entry)) at (now (src .entry))) (now (dst .entry)) (now (dst .exit)) at (length (now (src .entry))) ⌝ }
+    ensures { λ _. ⌜ Written (added (now (dst .entry)) at (now (src .entry))) (now (dst .entry)) (now (dst .exit)) at (length (now (src .entry))) ⌝ }
+    ensures { λ zero. ⌜ zero ≡ zeroFrom (now (dst .exit)) at (length (now (src .entry))) ⌝ }
 {
+    let mut seen = 0u8;
     let mut i = 0;
     while i < src.len() {
-        dst[at + i] = dst[at + i] ^ src[i];
+        let x = dst[at + i] ^ src[i];
+        dst[at + i] = x;
+        seen = seen | x;
         i += 1;
     }
+    seen == 0
 }
 
 // c · dst
-pub fn scale(dst: &mut [u8], c: u8)
-    ensures { λ r. ⌜ Written (scaled c (now (dst .entry))) (now (dst .entry)) (now (dst .exit)) 0 (length (now (dst .entry))) ⌝ }
+pub fn scale(dst: &mut [u8], c: u8) -> bool
+    ensures { λ _. ⌜ Written (scaled c (now (dst .entry))) (now (dst .entry)) (now (dst .exit)) 0 (length (now (dst .entry))) ⌝ }
+    ensures { λ zero. ⌜ zero ≡ zeroFrom (now (dst .exit)) 0 (length (now (dst .entry))) ⌝ }
 {
+    let mut seen = 0u8;
     let mut i = 0;
     while i < dst.len() {
-        dst[i] = doubling::mul(dst[i], c);
+        let x = doubling::mul(dst[i], c);
+        dst[i] = x;
+        seen = seen | x;
         i += 1;
     }
+    seen == 0
 }
 
 // dst + c · src, from place `at` of dst on
-pub fn fma(dst: &mut [u8], at: usize, src: &[u8], c: u8)
+pub fn fma(dst: &mut [u8], at: usize, src: &[u8], c: u8) -> bool
     requires { ⌜ at + length (now src) ≤ length (now dst) ⌝ }
-    ensures { λ r. ⌜ Written (fused (now (dst .entry)) at c (now (src .entry))) (now (dst .entry)) (now (dst .exit)) at (length (now (src .entry))) ⌝ }
+    ensures { λ _. ⌜ Written (fused (now (dst .entry)) at c (now (src .entry))) (now (dst .entry)) (now (dst .exit)) at (length (now (src .entry))) ⌝ }
+    ensures { λ zero. ⌜ zero ≡ zeroFrom (now (dst .exit)) at (length (now (src .entry))) ⌝ }
 {
+    let mut seen = 0u8;
     let mut i = 0;
     while i < src.len() {
-        dst[at + i] = dst[at + i] ^ doubling::mul(src[i], c);
+        let x = dst[at + i] ^ doubling::mul(src[i], c);
+        dst[at + i] = x;
+        seen = seen | x;
         i += 1;
     }
+    seen == 0
 }
 
 fn larger(x: u8, y: u8) -> u8
@@ -131,29 +148,43 @@ fn fma_bits(dst: &mut [u8], at: usize, src: &[u8], c: u8)
 }
 
 // The same as `fma`, where c is mostly 1: a sum is some ten times as fast as a sum with products.
-pub fn fma_symbol(dst: &mut [u8], at: usize, src: &[u8], c: u8)
+pub fn fma_symbol(dst: &mut [u8], at: usize, src: &[u8], c: u8) -> bool
     requires { ⌜ at + length (now src) ≤ length (now dst) ⌝ }
-    ensures { λ r. ⌜ Written (fused (now (dst .entry)) at c (now (src .entry))) (now (dst .entry)) (now (dst .exit)) at (length (now (src .entry))) ⌝ }
+    ensures { λ _. ⌜ Written (fused (now (dst .entry)) at c (now (src .entry))) (now (dst .entry)) (now (dst .exit)) at (length (now (src .entry))) ⌝ }
+    ensures { λ zero. ⌜ zero ≡ zeroFrom (now (dst .exit)) at (length (now (src .entry))) ⌝ }
+{
+    if c == 1 {
+        return add(dst, at, src);
+    }
+    fma(dst, at, src, c)
+}
+
+// The same where nobody asks whether dst is 0 now: the gathering is one of some thirty vector operations in the loop of a product.
+pub fn fuse(dst: &mut [u8], at: usize, src: &[u8], c: u8)
+    requires { ⌜ at + length (now src) ≤ length (now dst) ⌝ }
+    ensures { λ _. ⌜ Written (fused (now (dst .entry)) at c (now (src .entry))) (now (dst .entry)) (now (dst .exit)) at (length (now (src .entry))) ⌝ }
 {
     if c == 1 {
         add(dst, at, src);
         return;
     }
-    fma(dst, at, src, c);
+    let mut i = 0;
+    while i < src.len() {
+        dst[at + i] = dst[at + i] ^ doubling::mul(src[i], c);
+        i += 1;
+    }
 }
 
-// The same, where src is mostly of 0 and 1, as a row of coefficients is: a look at all of it takes less than the products.
+// The same for a row of coefficients, which is mostly of 0 and 1: a look at all of it takes less than the products.
 pub fn fma_row(dst: &mut [u8], at: usize, src: &[u8], c: u8)
     requires { ⌜ at + length (now src) ≤ length (now dst) ⌝ }
     ensures { λ r. ⌜ Written (fused (now (dst .entry)) at c (now (src .entry))) (now (dst .entry)) (now (dst .exit)) at (length (now (src .entry))) ⌝ }
 {
-    if c == 1 {
-        add(dst, at, src);
-        return;
+    if c != 1 {
+        if most(src) < 2 {
+            fma_bits(dst, at, src, c);
+            return;
+        }
     }
-    if most(src) < 2 {
-        fma_bits(dst, at, src, c);
-        return;
-    }
-    fma(dst, at, src, c);
+    fuse(dst, at, src, c);
 }

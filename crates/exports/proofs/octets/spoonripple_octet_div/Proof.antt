@@ -23,7 +23,8 @@ returns-2 : tie.Need-returns-2
 returns-2 c =
     let a = c .before .before .before .before .before .before .before .args in
     let room = c .before .before .before .before .before .if1 .left in
-    called-roomed _ 1 room (called-one _ (divided (a .a) (a .by)) room (called-of single (c .before .before .before .before .div .ensures) (c .before .before .hand-octet .ensures)))
+    let w = called-of single (c .before .before .before .before .div .ensures) (c .before .before .hand-octet .ensures) in
+    called-roomed _ 1 room (called-one (λ x. x) _ room (divided (a .a) (a .by)) w)
 
 pub spoonripple-octet-div-spec : {M : Type 1} → statement M
 spoonripple-octet-div-spec =

@@ -1,10 +1,11 @@
 -- `slab::symbol_slab::add_assign` meets its contract.
 -- Assumes nothing.
-use mathlib.Core.Path.{sym}
+use mathlib.Core.Path.{refl, sym, ap, _∙_}
 use native.Mathlib.Omega.{arith}
 use lib.ListN.{length}
 use denote.Ref.{now}
-use Rattle.field.proofs.Refusals.{told, left}
+use Rattle.field.specs.Answer.{given}
+use Rattle.field.proofs.Refusals.{told, went-on, stopped}
 use Rattle.slab.proofs.Slabs.{AddressedPair, addressed-pair-well, ends, apart}
 use borrow.Author.Needs.{needs}
 use Rattle.slab.proofs.symbol_slab.add_assign.Statement.{statement}
@@ -20,14 +21,14 @@ well c =
 pair-requires : tie.Need-pair-requires
 pair-requires c κs = search needs
 
-enum-told : tie.Need-enum-told
-enum-told c = search needs
-
-enum-told-2 : tie.Need-enum-told-2
-enum-told-2 c = search needs
+enum-known-may : tie.Need-enum-known-may
+enum-known-may c = search needs
 
 returns : tie.Need-returns
-returns c = (c .before .before .pair .ensures, left (c .before .before .pair .result) _ _ _ (c .enum-told2 .given .1))
+returns c = let p = c .before .before .before .pair in (stopped (p .result) (p .ensures) _ _ (c .before .may .given .1), refl)
+
+enum-told : tie.Need-enum-told
+enum-told c = search needs
 
 cast-t : tie.Need-cast-t
 cast-t c = search needs
@@ -54,19 +55,18 @@ returns-2 : tie.Need-returns-2
 returns-2 c =
     let at = c .before .before .before .before .before .before .before in
     let p = at .before .before .pair in
-    let i = c .before .before .before in (
-      sym (told (p .result) (p .ensures) (at .enum-told .given .1)),
-      rw (i .physical-index2 .ensures, i .before .physical-index .ensures) at (c .before .before .add .ensures),
-    )
+    let i = c .before .before .before in
+    let e = rw (i .physical-index2 .ensures, i .before .physical-index .ensures) at (c .before .before .add .ensures) in
+    (ap given (e .1) ∙ sym (went-on (p .result) (p .ensures) _ (at .enum-told .given .1)), e .0)
 
 pub add-assign-spec : {M : Type 1} → statement M
 add-assign-spec =
     tie.close
     (tie.spec
     pair-requires
-    enum-told
-    enum-told-2
+    enum-known-may
     returns
+    enum-told
     cast-t
     physical-index-requires
     mul-add

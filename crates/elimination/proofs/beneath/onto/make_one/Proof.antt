@@ -33,7 +33,7 @@ same-length-2 c = search needs
 returns-2 : tie.Need-returns-2
 returns-2 c =
     let x = c .before .before .before .before .before .before .before .before .inverse .ensures in
-    (times-by x (c .before .before .before .before .before .before .scale .ensures), times-by x (c .before .before .scale2 .ensures))
+    (times-by x (c .before .before .before .before .before .before .scale .ensures .0), times-by x (c .before .before .scale2 .ensures .0))
 
 pub make-one-spec : {M : Type 1} → statement M
 make-one-spec =

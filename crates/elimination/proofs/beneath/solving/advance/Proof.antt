@@ -11,15 +11,16 @@ use Rattle.elimination.proofs.beneath.solving.advance.Tie as tie
 copy-row-requires : tie.Need-copy-row-requires
 copy-row-requires c κs = search needs
 
-copy-row-requires-2 : tie.Need-copy-row-requires-2
-copy-row-requires-2 c κs = search needs
+lay-symbol-requires : tie.Need-lay-symbol-requires
+lay-symbol-requires c κs = search needs
 
 take-requires : tie.Need-take-requires
 take-requires c κs =
     let s = c .before .before .before .before .before .before .before .before .before .before .before .before .before .before .before .before .before .before .before .before in
     let row = c .before .before .before .before .before .before .before .before .before .before .before .before .copy-row .ensures .size ∙ s .pre .0 .2 .row in
-    let symbol = c .before .before .before .before .before .before .before .copy-row2 .ensures .size ∙ s .pre .0 .2 .symbol in (
-      (lent-held _ (omega (arith, s .pre .0 .3)) (s .pre .0 .0) (s .pre .0 .1) (s .pre .1), record { row = row; symbol = symbol }),
+    let laid = c .before .before .before .before .before .before .before .lay-symbol .ensures in
+    let symbol = laid .0 .size ∙ s .pre .0 .2 .symbol in (
+      (lent-held _ (omega (arith, s .pre .0 .3)) (s .pre .0 .0) (s .pre .0 .1) (s .pre .1), record { row = row; symbol = symbol }, laid .1),
       (rank-at-most (s .pre .1), s .pre .0 .1 .small, λ h. place-next (s .pre .0 .3) (s .pre .0 .0) (s .pre .0 .1) h),
     )
 
@@ -52,9 +53,9 @@ returns c =
     let a = s .args in
     let x = y .before .before .before .before .before .copy-row in
     let lent = lent-held _ (omega (arith, s .pre .0 .3)) (s .pre .0 .0) (s .pre .0 .1) (s .pre .1) in (
-      became-only (a .l) (a .t) (a .pivots .now) (a .rows .now) (a .values .now) (x .last .1 .0) (y .copy-row2 .last .1 .0)
+      became-only (a .l) (a .t) (a .pivots .now) (a .rows .now) (a .values .now) (x .last .1 .0) (y .lay-symbol .last .1 .0)
           (k .take .last .1 .1 .0) (k .take .last .0) (k .take .last .1 .0) (s .pre .0 .3) (k .take .result) (k .take .ensures),
-      λ a₀ d₀ u. rw (c .held-now .ensures) (gone _ _ u (x .ensures) (y .copy-row2 .ensures) lent
+      λ a₀ d₀ u. rw (c .held-now .ensures) (gone _ _ u (x .ensures) (y .lay-symbol .ensures .0) lent
           (k .take .last .1 .1 .0) (k .take .last .0) (k .take .last .1 .0) (k .take .result) (k .take .ensures)),
     )
 
@@ -63,7 +64,7 @@ advance-spec =
     tie.close
     (tie.spec
     copy-row-requires
-    copy-row-requires-2
+    lay-symbol-requires
     take-requires
     held-now-requires
     same-length

@@ -1,5 +1,6 @@
 -- `elimination::beneath::taking::take` meets its contract: the equation is held, or the held ones say all of it, or they deny it.
 -- Assumes nothing.
+use mathlib.Core.Path.{sym, _∙_}
 use native.Mathlib.Omega.{arith}
 use borrow.Author.Needs.{needs}
 use Rattle.linear.proofs.Keeping.{holds-kept}
@@ -42,7 +43,7 @@ returns c =
     let h = p .before .before .before .before .before .before .if1 .taken in
     let v = k .seek .ensures .vacant h in
     let f = k .seek .ensures .first v in
-    let w = k .before .before .before .before .before .before .sift .ensures .1 in (
+    let w = k .before .before .before .before .before .before .sift .ensures .1 .1 in (
       v,
       (k .seek .result, h, p .hold .ensures .0),
       λ q. record {
@@ -50,9 +51,6 @@ returns c =
         says = λ S u. p .hold .ensures .1 .says (f .other h) S (holds-kept u (w q .keeps));
       },
     )
-
-first-other-requires : tie.Need-first-other-requires
-first-other-requires c κs = search needs
 
 same-length-6 : tie.Need-same-length-6
 same-length-6 c = search needs
@@ -71,13 +69,11 @@ same-length-10 c = search needs
 
 returns-2 : tie.Need-returns-2
 returns-2 c =
-    let w = c .before .before .before .before .before .before .before .before .before .before in
+    let w = c .before .before .before .before .before .before .before .before in
     let lent = w .before .before .before .before .before .before .before .before .before .before .before .pre .0 .0 in
-    let k = c .before .before .before .before .seek .ensures in (
-      still _ _ _,
-      λ q. take-denied lent q (w .sift .ensures .1 q) k (omega (arith, c .before .before .before .if1 .left)) (c .before .first-other .ensures)
-          (c .if2 .taken),
-    )
+    let k = c .before .before .seek .ensures in
+    let z = sym (w .sift .ensures .1 .0) ∙ c .if2 .taken in
+    (still _ _ _, λ q. take-followed lent q (w .sift .ensures .1 .1 q) k (omega (arith, c .before .if1 .left)) z)
 
 same-length-11 : tie.Need-same-length-11
 same-length-11 c = search needs
@@ -96,13 +92,11 @@ same-length-15 c = search needs
 
 returns-3 : tie.Need-returns-3
 returns-3 c =
-    let w = c .before .before .before .before .before .before .before .before .before .before in
+    let w = c .before .before .before .before .before .before .before .before in
     let lent = w .before .before .before .before .before .before .before .before .before .before .before .pre .0 .0 in
-    let k = c .before .before .before .before .seek .ensures in (
-      still _ _ _,
-      λ q. take-followed lent q (w .sift .ensures .1 q) k (omega (arith, c .before .before .before .if1 .left)) (c .before .first-other .ensures)
-          (omega (arith, c .if2 .left)),
-    )
+    let k = c .before .before .seek .ensures in
+    let z = sym (w .sift .ensures .1 .0) ∙ c .if2 .left in
+    (still _ _ _, λ q. take-denied lent q (w .sift .ensures .1 .1 q) k (omega (arith, c .before .if1 .left)) z)
 
 pub take-spec : {M : Type 1} → statement M
 take-spec =
@@ -117,7 +111,6 @@ take-spec =
     same-length-4
     same-length-5
     returns
-    first-other-requires
     same-length-6
     same-length-7
     same-length-8

@@ -29,7 +29,7 @@ same-length c = search needs
 returns : tie.Need-returns
 returns c =
     let s = c .before .before .before .before .before .before .before in
-    symbol-added _ _ _ _ _ (s .pre .1) (c .before .before .add .ensures)
+    symbol-added _ _ _ _ _ (s .pre .1) (c .before .before .add .ensures .0)
 
 pub add-symbol-spec : {M : Type 1} → statement M
 add-symbol-spec =

@@ -1,36 +1,38 @@
--- `field::beneath::runs::add` meets its contract: after i turns the first i places of the run hold the sum.
+-- `field::beneath::runs::add` meets its contract: after i turns the first i places of the run hold the sum, and what they hold is gathered.
 -- Assumes nothing.
 use mathlib.Core.Path.{refl, ap}
 use Prim.Native.Nat.{ℕ, _-_, _≤_}
 use native.Mathlib.Omega.{arith}
+use lib.Dec.{eqb}
 use lib.ListN.{length, getD}
 use denote.Ref.{now}
 use Rattle.field.specs.Octet.{plus}
-use Rattle.field.specs.Runs.{Written, added}
-use Rattle.field.proofs.Writing.{written-none, written-next, written-more, written-is}
+use Rattle.field.specs.Runs.{added}
+use Rattle.field.proofs.Writing.{written-next}
+use Rattle.field.proofs.Zeros.{Telling, telling-none, gathered-more, told-all}
 use Rattle.field.proofs.beneath.runs.add.Statement.{statement}
 use Rattle.field.proofs.beneath.runs.add.Tie as tie
 
 abbrev Inv-loop : tie.InvT-loop
-Inv-loop dst₀ at src i₀ dst i = Written (added dst₀ at src) dst₀ dst at i × (i ≤ length src)
+Inv-loop dst₀ at src seen₀ i₀ dst seen i = Telling (added dst₀ at src) dst₀ dst at i (eqb seen 0) × (i ≤ length src)
 
 abbrev μ-loop : tie.MeasureT-loop
-μ-loop dst₀ at src i₀ dst i = length src - i
+μ-loop dst₀ at src seen₀ i₀ dst seen i = length src - i
 
 loop-holds : tie.Need-loop-holds Inv-loop μ-loop
-loop-holds c = (written-none _ _ _, omega arith)
+loop-holds c = (telling-none _ _ _, omega arith)
+
+add-x : tie.Need-add-x Inv-loop μ-loop
+add-x c = omega arith
+
+slice-read-x : tie.Need-slice-read-x Inv-loop μ-loop
+slice-read-x c = omega (arith, c .before .before .loop .inv .0 .written .size)
+
+shared-slice-read-x : tie.Need-shared-slice-read-x Inv-loop μ-loop
+shared-slice-read-x c = omega arith
 
 add-dst : tie.Need-add-dst Inv-loop μ-loop
 add-dst c = omega arith
-
-slice-read-dst : tie.Need-slice-read-dst Inv-loop μ-loop
-slice-read-dst c = omega arith
-
-shared-slice-read-dst : tie.Need-shared-slice-read-dst Inv-loop μ-loop
-shared-slice-read-dst c = omega arith
-
-add-dst-2 : tie.Need-add-dst-2 Inv-loop μ-loop
-add-dst-2 c = omega arith
 
 slice-write-dst : tie.Need-slice-write-dst Inv-loop μ-loop
 slice-write-dst c = omega arith
@@ -44,14 +46,16 @@ loop-less c = omega arith
 loop-again : tie.Need-loop-again Inv-loop μ-loop
 loop-again c =
     let l = c .before .before .before .loop in
-    let start = c .before .before .before .before .args in
-    (written-more (l .inv .0) refl (omega arith) (ap (λ (x : ℕ). plus x (getD (now (start .src)) (l .i) 0)) (written-next (l .inv .0))), omega arith)
+    let start = c .before .before .before .before .args in (
+      gathered-more (l .seen) (l .inv .0) refl (omega arith) (ap (λ (x : ℕ). plus x (getD (now (start .src)) (l .i) 0)) (written-next (l .inv .0 .written))),
+      omega arith,
+    )
 
 same-length : tie.Need-same-length Inv-loop μ-loop
-same-length c = c .before .loop .inv .0 .size
+same-length c = c .before .loop .inv .0 .written .size
 
 returns : tie.Need-returns Inv-loop μ-loop
-returns c = written-is (c .before .loop .inv .0) (omega arith)
+returns c = told-all (c .before .loop .inv .0) (omega arith)
 
 pub add-spec : {M : Type 1} → statement M
 add-spec =
@@ -60,10 +64,10 @@ add-spec =
     Inv-loop
     μ-loop
     loop-holds
+    add-x
+    slice-read-x
+    shared-slice-read-x
     add-dst
-    slice-read-dst
-    shared-slice-read-dst
-    add-dst-2
     slice-write-dst
     add-i
     loop-less

@@ -16,7 +16,8 @@ returns : tie.Need-returns
 returns c =
     let i = c .before .before .before .before in
     let s = i .before .before .before .args in
-    added-fused (s .src .now) (s .c) (i .if1 .taken) (λ x. omega (arith, i .before .shared-slice-known .given x)) (c .before .before .add .ensures)
+    let e = c .before .before .add .ensures in
+    (added-fused (s .src .now) (s .c) (i .if1 .taken) (λ x. omega (arith, i .before .shared-slice-known .given x)) (e .0), e .1)
 
 fma-requires : tie.Need-fma-requires
 fma-requires c κs = search needs

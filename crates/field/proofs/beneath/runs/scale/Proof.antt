@@ -1,26 +1,27 @@
--- `field::beneath::runs::scale` meets its contract: after i turns the first i places hold the product.
+-- `field::beneath::runs::scale` meets its contract: after i turns the first i places hold the product, and what they hold is gathered.
 -- Assumes nothing.
 use mathlib.Core.Path.{sym, ap, _∙_}
 use Prim.Native.Nat.{_-_, _≤_}
 use native.Mathlib.Nat.{zero-add}
 use native.Mathlib.Omega.{arith}
 use borrow.Author.Needs.{needs}
+use lib.Dec.{eqb}
 use lib.ListN.{length, getD}
 use Rattle.field.specs.Octet.{times}
-use Rattle.field.specs.Runs.{Written, scaled}
+use Rattle.field.specs.Runs.{scaled}
 use Rattle.field.proofs.Laws.{times-comm}
-use Rattle.field.proofs.Writing.{written-none, written-more, written-is}
+use Rattle.field.proofs.Zeros.{Telling, telling-none, gathered-more, told-all}
 use Rattle.field.proofs.beneath.runs.scale.Statement.{statement}
 use Rattle.field.proofs.beneath.runs.scale.Tie as tie
 
 abbrev Inv-loop : tie.InvT-loop
-Inv-loop dst₀ c i₀ dst i = Written (scaled c dst₀) dst₀ dst 0 i × (i ≤ length dst₀)
+Inv-loop dst₀ c seen₀ i₀ dst seen i = Telling (scaled c dst₀) dst₀ dst 0 i (eqb seen 0) × (i ≤ length dst₀)
 
 abbrev μ-loop : tie.MeasureT-loop
-μ-loop dst₀ c i₀ dst i = length dst₀ - i
+μ-loop dst₀ c seen₀ i₀ dst seen i = length dst₀ - i
 
 loop-holds : tie.Need-loop-holds Inv-loop μ-loop
-loop-holds c = (written-none _ _ _, omega arith)
+loop-holds c = (telling-none _ _ _, omega arith)
 
 slice-read-mul : tie.Need-slice-read-mul Inv-loop μ-loop
 slice-read-mul c = omega arith
@@ -41,16 +42,16 @@ loop-again : tie.Need-loop-again Inv-loop μ-loop
 loop-again c =
     let l = c .before .before .before .loop in
     let start = c .before .before .before .before .before .args in (
-      written-more (l .inv .0) (sym (zero-add (l .i))) (omega arith)
-          (c .mul .ensures ∙ times-comm (getD (l .dst) (l .i) 0) (start .c) ∙ ap (times (start .c)) (l .inv .0 .high (l .i) (omega arith))),
+      gathered-more (l .seen) (l .inv .0) (sym (zero-add (l .i))) (omega arith)
+          (c .mul .ensures ∙ times-comm (getD (l .dst) (l .i) 0) (start .c) ∙ ap (times (start .c)) (l .inv .0 .written .high (l .i) (omega arith))),
       omega arith,
     )
 
 same-length : tie.Need-same-length Inv-loop μ-loop
-same-length c = c .before .loop .inv .0 .size
+same-length c = c .before .loop .inv .0 .written .size
 
 returns : tie.Need-returns Inv-loop μ-loop
-returns c = written-is (c .before .loop .inv .0) (omega arith)
+returns c = told-all (c .before .loop .inv .0) (omega arith)
 
 pub scale-spec : {M : Type 1} → statement M
 scale-spec =

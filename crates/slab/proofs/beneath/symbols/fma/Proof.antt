@@ -1,4 +1,4 @@
--- `slab::beneath::symbols::fma` meets its contract: after `at` bytes, those of the symbol at `to` are done.
+-- `slab::beneath::symbols::fma` meets its contract: after `at` bytes, those of the symbol at `to` are done, and `zero` is whether they are all 0.
 -- Assumes nothing.
 use mathlib.Core.Path.{_≡_, refl, sym, _∙_}
 use Prim.Native.Nat.{ℕ, _-_, _≤_}
@@ -7,23 +7,24 @@ use borrow.Author.Needs.{needs}
 use lib.ListN.{length}
 use lib.Seq.{length-take-le}
 use Rattle.field.specs.Octet.{plus, times}
-use Rattle.field.specs.Runs.{Written, fused, part}
-use Rattle.field.proofs.Writing.{written-none, written-is}
+use Rattle.field.specs.Runs.{fused, part}
+use Rattle.field.proofs.Zeros.{Telling, telling-none, told-all}
 use Rattle.slab.proofs.Symbols.{room, turn}
 use Rattle.slab.proofs.beneath.symbols.fma.Statement.{statement}
 use Rattle.slab.proofs.beneath.symbols.fma.Tie as tie
 
 abbrev Inv-loop : tie.InvT-loop
-Inv-loop slab₀ t to from c end chunk₀ at₀ slab chunk at = (at ≤ t) × (length chunk ≡ 1024) × Written (fused slab₀ to c (part slab₀ from t)) slab₀ slab to at
+Inv-loop slab₀ t to from c end chunk₀ zero₀ at₀ slab chunk zero at =
+    (at ≤ t) × (length chunk ≡ 1024) × Telling (fused slab₀ to c (part slab₀ from t)) slab₀ slab to at zero
 
 abbrev μ-loop : tie.MeasureT-loop
-μ-loop slab₀ t to from c end chunk₀ at₀ slab chunk at = t - at
+μ-loop slab₀ t to from c end chunk₀ zero₀ at₀ slab chunk zero at = t - at
 
 add-end : tie.Need-add-end Inv-loop μ-loop
 add-end c = search needs
 
 loop-holds : tie.Need-loop-holds Inv-loop μ-loop
-loop-holds c = (omega arith, refl, written-none _ _ _)
+loop-holds c = (omega arith, refl, telling-none _ _ _)
 
 sub-chunk-len : tie.Need-sub-chunk-len Inv-loop μ-loop
 sub-chunk-len c = search needs
@@ -72,7 +73,7 @@ fma-requires c κs =
     let e = c .before .before .before .before .before .before .before in
     room (e .before .before .loop .slab) (c .before .before .before .copy .last .1 .0) (e .before .before .before .before .args .to)
     (e .before .before .before .before .args .t) (e .before .before .loop .at) (e .chunk-len .result)
-    (omega (arith, e .before .before .loop .inv .2 .size, e .before .before .before .before .pre .to-in)) (omega (arith, e))
+    (omega (arith, e .before .before .loop .inv .2 .written .size, e .before .before .before .before .pre .to-in)) (omega (arith, e))
     (omega (arith, e .chunk-len, c .before .before .before .copy .kept .1 .0))
 
 add-at : tie.Need-add-at Inv-loop μ-loop
@@ -86,15 +87,17 @@ loop-again c =
     let e = c .before .before .before .before .before .before .before .before .before .before in (
       omega (arith, e .chunk-len),
       c .before .before .before .before .before .before .copy .kept .1 .0 ∙ e .before .before .loop .inv .1,
-      turn (λ (x y : ℕ). plus x (times (e .before .before .before .before .args .c) y)) _ _ _ _ _ _ _ _ _ (e .chunk-len .result) (e .before .before .loop .inv .2) (e .before .before .before .before .pre) (omega (arith, e))
-          (c .before .before .before .before .before .before .copy .ensures .1) (c .before .before .fma .ensures),
+      turn (λ (x y : ℕ). plus x (times (e .before .before .before .before .args .c) y)) _ _ _ _ _ _ _ _ _ (e .chunk-len .result)
+          (e .before .before .loop .inv .2 .written) (e .before .before .before .before .pre) (omega (arith, e))
+          (e .before .before .loop .inv .2 .told) (c .before .before .before .before .before .before .copy .ensures .1) (c .before .before .fma .ensures .0)
+          (c .before .before .fma .ensures .1),
     )
 
 same-length : tie.Need-same-length Inv-loop μ-loop
 same-length c = search needs
 
 returns : tie.Need-returns Inv-loop μ-loop
-returns c = written-is (c .before .loop .inv .2) (omega arith)
+returns c = told-all (c .before .loop .inv .2) (omega arith)
 
 pub fma-spec : {M : Type 1} → statement M
 fma-spec =

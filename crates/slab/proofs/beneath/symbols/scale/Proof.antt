@@ -1,7 +1,7 @@
--- `slab::beneath::symbols::scale` meets its contract: the one symbol's part is lent on, and comes back multiplied.
+-- `slab::beneath::symbols::scale` meets its contract: the one symbol's part is lent on, and comes back multiplied, and tells of it.
 -- Assumes nothing.
 use Rattle.field.specs.Octet.{times}
-use Rattle.slab.proofs.Symbols.{whole}
+use Rattle.slab.proofs.Symbols.{whole, whole-told}
 use borrow.Author.Needs.{needs}
 use Rattle.slab.proofs.beneath.symbols.scale.Statement.{statement}
 use Rattle.slab.proofs.beneath.symbols.scale.Tie as tie
@@ -27,7 +27,10 @@ same-length c = search needs
 returns : tie.Need-returns
 returns c =
     let start = c .before .before .before .before .before in
-    whole (times (start .args .c)) _ (start .args .to) (start .args .t) (start .pre) (c .before .before .scale .ensures)
+    let e = c .before .before .scale .ensures in (
+      whole (times (start .args .c)) _ (start .args .to) (start .args .t) (start .pre) (e .0),
+      whole-told (times (start .args .c)) _ (start .args .to) (start .args .t) (start .pre) (e .0) (e .1),
+    )
 
 pub scale-spec : {M : Type 1} → statement M
 scale-spec =
