@@ -144,19 +144,21 @@ uint32_t spoonripple_octet_div(uint8_t a, uint8_t by, uint64_t *out, size_t out_
  * Refusals: 2 (i above 255), 8 (out has no place). Writes out[0]. */
 uint32_t spoonripple_octet_alpha(size_t i, uint64_t *out, size_t out_len);
 
-/* ---- Runs of octets (RFC 6330, 5.7.5) ---- */
+/* ---- Runs of octets (RFC 6330, 5.7.5) ----
+ * Each call tells whether dst is all 0 now, whatever it was before: out[0] is 1 where all octets of dst are 0, and else 0. A dst
+ * of no octets is all 0: 1. */
 
-/* dst + src, octet by octet.
- * Refusals: 8 (the two differ in length). Writes all of dst. */
-uint32_t spoonripple_run_add(uint8_t *dst, size_t dst_len, const uint8_t *src, size_t src_len);
+/* dst + src, octet by octet, in dst; out[0] tells whether dst is all 0 now.
+ * Refusals: 8 (out has no place), 8 (the two differ in length). Writes all of dst, and out[0]. */
+uint32_t spoonripple_run_add(uint8_t *dst, size_t dst_len, const uint8_t *src, size_t src_len, uint64_t *out, size_t out_len);
 
-/* c * dst, octet by octet; c may be 0 or 1.
- * No refusals. Writes all of dst. */
-uint32_t spoonripple_run_scale(uint8_t *dst, size_t dst_len, uint8_t c);
+/* c * dst, octet by octet, in dst; c may be 0 or 1; out[0] tells whether dst is all 0 now.
+ * Refusals: 8 (out has no place). Writes all of dst, and out[0]. */
+uint32_t spoonripple_run_scale(uint8_t *dst, size_t dst_len, uint8_t c, uint64_t *out, size_t out_len);
 
-/* dst + c * src, octet by octet; c may be 0 or 1.
- * Refusals: 8 (the two differ in length). Writes all of dst. */
-uint32_t spoonripple_run_fma(uint8_t *dst, size_t dst_len, const uint8_t *src, size_t src_len, uint8_t c);
+/* dst + c * src, octet by octet, in dst; c may be 0 or 1; out[0] tells whether dst is all 0 now.
+ * Refusals: 8 (out has no place), 8 (the two differ in length). Writes all of dst, and out[0]. */
+uint32_t spoonripple_run_fma(uint8_t *dst, size_t dst_len, const uint8_t *src, size_t src_len, uint8_t c, uint64_t *out, size_t out_len);
 
 /* ---- Headers and packets (RFC 6330, 3.2, 3.3.2, 3.3.3, 4.4.1.2, 4.4.2) ---- */
 
@@ -223,7 +225,9 @@ uint32_t spoonripple_tuple(uint32_t k, uint32_t j, uint32_t s, uint32_t h, uint3
 /* ---- Symbols in lent bytes ----
  * count symbols of t bytes stand at the front of store, one after the other; t may be 0. An order of length 0 is none; one of
  * length count says that symbol i lies at physical place order[i]. Its entries may repeat, and only those used are looked at.
- * A symbol lies outside if i is count or more, or the order puts it at count or more. */
+ * A symbol lies outside if i is count or more, or the order puts it at count or more.
+ * Each call with a dest tells whether dest is all 0 now, whatever it was before: out[0] is 1 where all t bytes of dest are 0, and
+ * else 0. Where t is 0 a dest has no bytes and is all 0: 1. */
 
 /* All count * t bytes become 0.
  * Refusals: 2 (count above 131,070), 8 (store below count * t bytes). Writes the first count * t bytes of store. */
@@ -235,23 +239,23 @@ uint32_t spoonripple_slab_with_zeros(uint8_t *store, size_t store_len, size_t co
 uint32_t spoonripple_slab_locate(size_t len, size_t count, uint16_t t, const uint32_t *order, size_t order_len, size_t i,
                                  uint64_t *out, size_t out_len);
 
-/* dest + src, in dest.
- * Refusals: 2 (count above 131,070), 8 (store below count * t bytes), 8 (order of another length), 6 (dest or src outside),
- * 7 (dest and src are one physical symbol). Writes the t bytes of dest in store. */
+/* dest + src, in dest; out[0] tells whether dest is all 0 now.
+ * Refusals: 2 (count above 131,070), 8 (out has no place), 8 (store below count * t bytes), 8 (order of another length), 6 (dest or
+ * src outside), 7 (dest and src are one physical symbol). Writes the t bytes of dest in store, and out[0]. */
 uint32_t spoonripple_slab_add_assign(uint8_t *store, size_t store_len, size_t count, uint16_t t, const uint32_t *order, size_t order_len,
-                                     size_t dest, size_t src);
+                                     size_t dest, size_t src, uint64_t *out, size_t out_len);
 
-/* scalar * dest, in dest; the scalar may be 0 or 1.
- * Refusals: 2 (count above 131,070), 8 (store below count * t bytes), 8 (order of another length), 6 (dest outside).
- * Writes the t bytes of dest in store. */
+/* scalar * dest, in dest; the scalar may be 0 or 1; out[0] tells whether dest is all 0 now.
+ * Refusals: 2 (count above 131,070), 8 (out has no place), 8 (store below count * t bytes), 8 (order of another length), 6 (dest
+ * outside). Writes the t bytes of dest in store, and out[0]. */
 uint32_t spoonripple_slab_mulassign_scalar(uint8_t *store, size_t store_len, size_t count, uint16_t t, const uint32_t *order, size_t order_len,
-                                           size_t dest, uint8_t scalar);
+                                           size_t dest, uint8_t scalar, uint64_t *out, size_t out_len);
 
-/* dest + scalar * src, in dest; the scalar may be 0 or 1.
- * Refusals: 2 (count above 131,070), 8 (store below count * t bytes), 8 (order of another length), 6 (dest or src outside),
- * 7 (dest and src are one physical symbol). Writes the t bytes of dest in store. */
+/* dest + scalar * src, in dest; the scalar may be 0 or 1; out[0] tells whether dest is all 0 now.
+ * Refusals: 2 (count above 131,070), 8 (out has no place), 8 (store below count * t bytes), 8 (order of another length), 6 (dest or
+ * src outside), 7 (dest and src are one physical symbol). Writes the t bytes of dest in store, and out[0]. */
 uint32_t spoonripple_slab_fma(uint8_t *store, size_t store_len, size_t count, uint16_t t, const uint32_t *order, size_t order_len,
-                              size_t dest, size_t src, uint8_t scalar);
+                              size_t dest, size_t src, uint8_t scalar, uint64_t *out, size_t out_len);
 
 /* ---- The binary matrix in lent words ----
  * height rows of ceil(width / 64) words stand at the front of words; column c of a row is bit c mod 64 of its word c / 64. The

@@ -72,18 +72,24 @@ static void octets(void) {
     CASE(8, octet_div(3, 0, NONE));
     CASE(8, octet_alpha(3, NONE));
     CASE(2, octet_alpha(256, NONE));
-    CASE(0, run_add(NONE, NONE));
-    CASE(0, run_add(NONE, lent.bytes, 0));
-    CASE(0, run_add(lent.bytes, 0, NONE));
-    CASE(8, run_add(NONE, BYTES));
-    CASE(8, run_add(BYTES, NONE));
+    CASE(0, run_add(NONE, NONE, OUT));
+    CASE(0, run_add(NONE, lent.bytes, 0, OUT));
+    CASE(0, run_add(lent.bytes, 0, NONE, OUT));
+    CASE(8, run_add(NONE, BYTES, OUT));
+    CASE(8, run_add(BYTES, NONE, OUT));
+    CASE(8, run_add(BYTES, MORE, NONE));
+    CASE(8, run_add(NONE, NONE, NONE));
     for (unsigned c = 0; c < 256; c++) {
-        CASE(0, run_scale(NONE, (uint8_t)c));
-        CASE(0, run_fma(NONE, NONE, (uint8_t)c));
-        CASE(0, run_fma(NONE, lent.bytes, 0, (uint8_t)c));
-        CASE(0, run_fma(lent.bytes, 0, NONE, (uint8_t)c));
-        CASE(8, run_fma(NONE, BYTES, (uint8_t)c));
-        CASE(8, run_fma(BYTES, NONE, (uint8_t)c));
+        CASE(0, run_scale(NONE, (uint8_t)c, OUT));
+        CASE(8, run_scale(BYTES, (uint8_t)c, NONE));
+        CASE(8, run_scale(NONE, (uint8_t)c, NONE));
+        CASE(0, run_fma(NONE, NONE, (uint8_t)c, OUT));
+        CASE(0, run_fma(NONE, lent.bytes, 0, (uint8_t)c, OUT));
+        CASE(0, run_fma(lent.bytes, 0, NONE, (uint8_t)c, OUT));
+        CASE(8, run_fma(NONE, BYTES, (uint8_t)c, OUT));
+        CASE(8, run_fma(BYTES, NONE, (uint8_t)c, OUT));
+        CASE(8, run_fma(BYTES, MORE, (uint8_t)c, NONE));
+        CASE(8, run_fma(NONE, NONE, (uint8_t)c, NONE));
     }
 }
 
@@ -124,22 +130,29 @@ static void slabs(void) {
     CASE(0, slab_locate(8, 2, T, NONE, 1, OUT));
     CASE(8, slab_locate(8, 2, T, NONE, 1, NONE));
     CASE(8, slab_locate(8, 2, T, ORDER, 1, NONE));
-    CASE(0, slab_add_assign(BYTES, 2, T, NONE, 0, 1));
-    CASE(0, slab_add_assign(NONE, 2, 0, NONE, 0, 1));
-    CASE(0, slab_add_assign(NONE, 2, 0, ORDER, 0, 1));
-    CASE(7, slab_add_assign(NONE, 2, 0, NONE, 1, 1));
-    CASE(8, slab_add_assign(NONE, 2, T, ORDER, 0, 1));
-    CASE(6, slab_add_assign(NONE, 0, T, NONE, 0, 1));
+    CASE(0, slab_add_assign(BYTES, 2, T, NONE, 0, 1, OUT));
+    CASE(0, slab_add_assign(NONE, 2, 0, NONE, 0, 1, OUT));
+    CASE(0, slab_add_assign(NONE, 2, 0, ORDER, 0, 1, OUT));
+    CASE(7, slab_add_assign(NONE, 2, 0, NONE, 1, 1, OUT));
+    CASE(8, slab_add_assign(NONE, 2, T, ORDER, 0, 1, OUT));
+    CASE(6, slab_add_assign(NONE, 0, T, NONE, 0, 1, OUT));
+    CASE(8, slab_add_assign(BYTES, 2, T, ORDER, 0, 1, NONE));
+    CASE(8, slab_add_assign(NONE, 0, T, NONE, 0, 1, NONE));
+    CASE(2, slab_add_assign(NONE, 131071, 0, NONE, 0, 1, NONE));
     for (unsigned c = 0; c < 256; c++) {
-        CASE(0, slab_mulassign_scalar(BYTES, 2, T, NONE, 1, (uint8_t)c));
-        CASE(0, slab_mulassign_scalar(NONE, 2, 0, NONE, 1, (uint8_t)c));
-        CASE(0, slab_mulassign_scalar(NONE, 2, 0, ORDER, 1, (uint8_t)c));
-        CASE(8, slab_mulassign_scalar(NONE, 2, T, ORDER, 1, (uint8_t)c));
-        CASE(6, slab_mulassign_scalar(NONE, 0, T, NONE, 1, (uint8_t)c));
-        CASE(0, slab_fma(BYTES, 2, T, NONE, 0, 1, (uint8_t)c));
-        CASE(0, slab_fma(NONE, 2, 0, NONE, 0, 1, (uint8_t)c));
-        CASE(0, slab_fma(NONE, 2, 0, ORDER, 0, 1, (uint8_t)c));
-        CASE(8, slab_fma(NONE, 2, T, ORDER, 0, 1, (uint8_t)c));
+        CASE(0, slab_mulassign_scalar(BYTES, 2, T, NONE, 1, (uint8_t)c, OUT));
+        CASE(0, slab_mulassign_scalar(NONE, 2, 0, NONE, 1, (uint8_t)c, OUT));
+        CASE(0, slab_mulassign_scalar(NONE, 2, 0, ORDER, 1, (uint8_t)c, OUT));
+        CASE(8, slab_mulassign_scalar(NONE, 2, T, ORDER, 1, (uint8_t)c, OUT));
+        CASE(6, slab_mulassign_scalar(NONE, 0, T, NONE, 1, (uint8_t)c, OUT));
+        CASE(8, slab_mulassign_scalar(BYTES, 2, T, ORDER, 1, (uint8_t)c, NONE));
+        CASE(8, slab_mulassign_scalar(NONE, 0, T, NONE, 1, (uint8_t)c, NONE));
+        CASE(0, slab_fma(BYTES, 2, T, NONE, 0, 1, (uint8_t)c, OUT));
+        CASE(0, slab_fma(NONE, 2, 0, NONE, 0, 1, (uint8_t)c, OUT));
+        CASE(0, slab_fma(NONE, 2, 0, ORDER, 0, 1, (uint8_t)c, OUT));
+        CASE(8, slab_fma(NONE, 2, T, ORDER, 0, 1, (uint8_t)c, OUT));
+        CASE(8, slab_fma(BYTES, 2, T, ORDER, 0, 1, (uint8_t)c, NONE));
+        CASE(8, slab_fma(NONE, 0, T, NONE, 0, 1, (uint8_t)c, NONE));
     }
 }
 

@@ -2,7 +2,7 @@
 //!
 //! Refused by every call, in this order: 2 where the height is above 131,070 or the width above 65,535, 8 where the words or a list are too short,
 //! 6 where a row, a column or a range lies outside. Words past the matrix stay.
-use crate::refusal::{Refusal, done, values};
+use crate::refusal::{Refusal, done, values, yes};
 use crate::sys;
 use std::ops::Range;
 
@@ -34,7 +34,7 @@ pub fn set(words: &mut [u64], m: Shape, i: usize, j: usize, one: bool) -> Result
 
 /// Whether row i has a one in column j.
 pub fn get(words: &[u64], m: Shape, i: usize, j: usize) -> Result<bool, Refusal> {
-    values(|out, room| unsafe { sys::spoonripple_matrix_get(words.as_ptr(), words.len(), m.height, m.width, i, j, out, room) }).map(|[x]| x == 1)
+    yes(|out, room| unsafe { sys::spoonripple_matrix_get(words.as_ptr(), words.len(), m.height, m.width, i, j, out, room) })
 }
 
 /// How many of these columns of row i are ones. A range whose start is above its end is 6.

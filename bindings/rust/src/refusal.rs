@@ -135,6 +135,17 @@ pub(crate) fn values<const N: usize>(call: impl FnOnce(*mut u64, usize) -> u32) 
     done(call(out.as_mut_ptr(), N)).map(|()| out)
 }
 
+/// The yes or no of a call that is lent room for it. What stands there before is neither, so that an archive in which the call gives no answer is told.
+#[inline]
+pub(crate) fn yes(call: impl FnOnce(*mut u64, usize) -> u32) -> Result<bool, Refusal> {
+    let mut out = [u64::MAX];
+    done(call(out.as_mut_ptr(), 1)).map(|()| match out {
+        [0] => false,
+        [1] => true,
+        [x] => panic!("the archive answered {x} where spoonripple.h has 0 or 1: it is of another version"),
+    })
+}
+
 #[cfg(test)]
 mod tests {
     use super::*;
@@ -151,5 +162,8 @@ mod tests {
             assert!(told(call).contains("which spoonripple.h does not name"));
         }
         assert_eq!((done(0), judged(0, [0; 9]), done(8)), (Ok(()), Ok(()), Err(Refusal::WrongLength)));
+        // A call that is done and has left the place of its answer as it was.
+        assert!(told(|| yes(|_, _| 0).map(drop)).contains("where spoonripple.h has 0 or 1"));
+        assert_eq!(yes(|_, _| 8), Err(Refusal::WrongLength));
     }
 }

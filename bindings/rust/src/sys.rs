@@ -11,9 +11,9 @@ unsafe extern "C" {
     pub fn spoonripple_octet_fma(a: u8, b: u8, c: u8, out: *mut u64, out_len: usize) -> u32;
     pub fn spoonripple_octet_div(a: u8, by: u8, out: *mut u64, out_len: usize) -> u32;
     pub fn spoonripple_octet_alpha(i: usize, out: *mut u64, out_len: usize) -> u32;
-    pub fn spoonripple_run_add(dst: *mut u8, dst_len: usize, src: *const u8, src_len: usize) -> u32;
-    pub fn spoonripple_run_scale(dst: *mut u8, dst_len: usize, c: u8) -> u32;
-    pub fn spoonripple_run_fma(dst: *mut u8, dst_len: usize, src: *const u8, src_len: usize, c: u8) -> u32;
+    pub fn spoonripple_run_add(dst: *mut u8, dst_len: usize, src: *const u8, src_len: usize, out: *mut u64, out_len: usize) -> u32;
+    pub fn spoonripple_run_scale(dst: *mut u8, dst_len: usize, c: u8, out: *mut u64, out_len: usize) -> u32;
+    pub fn spoonripple_run_fma(dst: *mut u8, dst_len: usize, src: *const u8, src_len: usize, c: u8, out: *mut u64, out_len: usize) -> u32;
     pub fn spoonripple_payload_id_read(bytes: *const u8, bytes_len: usize, out: *mut u64, out_len: usize) -> u32;
     pub fn spoonripple_payload_id_write(sbn: u8, esi: u32, store: *mut u8, store_len: usize) -> u32;
     pub fn spoonripple_transmission_read(bytes: *const u8, bytes_len: usize, out: *mut u64, out_len: usize) -> u32;
@@ -29,9 +29,9 @@ unsafe extern "C" {
     pub fn spoonripple_tuple(k: u32, j: u32, s: u32, h: u32, w: u32, l: u32, p: u32, b: u32, p1: u32, tables: *const u32, tables_len: usize, isi: u32, out: *mut u64, out_len: usize) -> u32;
     pub fn spoonripple_slab_with_zeros(store: *mut u8, store_len: usize, count: usize, t: u16) -> u32;
     pub fn spoonripple_slab_locate(len: usize, count: usize, t: u16, order: *const u32, order_len: usize, i: usize, out: *mut u64, out_len: usize) -> u32;
-    pub fn spoonripple_slab_add_assign(store: *mut u8, store_len: usize, count: usize, t: u16, order: *const u32, order_len: usize, dest: usize, src: usize) -> u32;
-    pub fn spoonripple_slab_mulassign_scalar(store: *mut u8, store_len: usize, count: usize, t: u16, order: *const u32, order_len: usize, dest: usize, scalar: u8) -> u32;
-    pub fn spoonripple_slab_fma(store: *mut u8, store_len: usize, count: usize, t: u16, order: *const u32, order_len: usize, dest: usize, src: usize, scalar: u8) -> u32;
+    pub fn spoonripple_slab_add_assign(store: *mut u8, store_len: usize, count: usize, t: u16, order: *const u32, order_len: usize, dest: usize, src: usize, out: *mut u64, out_len: usize) -> u32;
+    pub fn spoonripple_slab_mulassign_scalar(store: *mut u8, store_len: usize, count: usize, t: u16, order: *const u32, order_len: usize, dest: usize, scalar: u8, out: *mut u64, out_len: usize) -> u32;
+    pub fn spoonripple_slab_fma(store: *mut u8, store_len: usize, count: usize, t: u16, order: *const u32, order_len: usize, dest: usize, src: usize, scalar: u8, out: *mut u64, out_len: usize) -> u32;
     pub fn spoonripple_matrix_new(words: *mut u64, words_len: usize, height: usize, width: usize) -> u32;
     pub fn spoonripple_matrix_set(words: *mut u64, words_len: usize, height: usize, width: usize, i: usize, j: usize, value: u8) -> u32;
     pub fn spoonripple_matrix_get(words: *const u64, words_len: usize, height: usize, width: usize, i: usize, j: usize, out: *mut u64, out_len: usize) -> u32;

@@ -1,5 +1,8 @@
 //! The published crate's answer to each call that it has too, beside that of the safe crate. What is refused stands in bindings/rust.
 #![forbid(unsafe_code)]
+#[path = "../../rust/tests/common/mod.rs"]
+mod common;
+use common::Random;
 use raptorq::matrix::{BinaryMatrix, DenseBinaryMatrix};
 use raptorq::octet::Octet;
 use spoonripple::headers::{ObjectTransmissionInformation, Parts, PayloadId, partition, read_packet, write_packet};
@@ -39,14 +42,51 @@ fn runs_are_the_crates() {
     let (dst, src) = (bytes(100), bytes(200)[100..].to_vec());
     let each = |call: &dyn Fn(u8, u8) -> u8| dst.iter().zip(&src).map(|(a, b)| call(*a, *b)).collect::<Vec<u8>>();
     let mut run = dst.clone();
-    assert_eq!(octets::run_add(&mut run, &src), Ok(()));
+    assert_eq!(octets::run_add(&mut run, &src), Ok(false));
     assert_eq!(run, each(&|a, b| a ^ b));
     run = dst.clone();
-    octets::run_scale(&mut run, 77);
+    assert!(!octets::run_scale(&mut run, 77));
     assert_eq!(run, each(&|a, _| (Octet::new(a) * Octet::new(77)).byte()));
     run = dst.clone();
-    assert_eq!(octets::run_fma(&mut run, &src, 77), Ok(()));
+    assert_eq!(octets::run_fma(&mut run, &src, 77), Ok(false));
     assert_eq!(run, each(&|a, b| a ^ (Octet::new(b) * Octet::new(77)).byte()));
+}
+
+/// The crate does not tell whether a run is zero, so its bytes are looked through. Of the scalars 0 and 1 its `fused_addassign_mul_scalar` takes neither.
+#[test]
+fn a_run_is_zero_where_the_crates_is() {
+    let (mut random, mut met) = (Random::new(5), [[0; 2]; 3]);
+    for case in 0..9000 {
+        let (kind, c) = (case % 3, (random.below(256) >> random.below(8)) as u8);
+        let (n, scalar) = ([0, 1, 15, 16, 17, 64, 1023, 1024, 1025, 2048, random.below(300)][random.below(11)], Octet::new(c));
+        let src = random.bytes(n);
+        let theirs = |run: &mut [u8]| match (kind, c) {
+            (1, _) => raptorq::octets::mulassign_scalar(run, &scalar),
+            (2, 0) => (),
+            (0, _) | (2, 1) => raptorq::octets::add_assign(run, &src),
+            _ => raptorq::octets::fused_addassign_mul_scalar(run, &src, &scalar),
+        };
+        // All zero, or all but a byte. What the crate adds to that is gone when it is added once more.
+        let mut ours = vec![0; n];
+        if n > 0 && random.below(2) == 0 {
+            ours[[0, n - 1, random.below(n)][random.below(3)]] = 1 + random.below(255) as u8;
+        }
+        if kind != 1 {
+            theirs(&mut ours);
+        }
+        let mut due = ours.clone();
+        theirs(&mut due);
+        let zero = due.iter().all(|x| *x == 0);
+        let said = match kind {
+            0 => octets::run_add(&mut ours, &src),
+            1 => Ok(octets::run_scale(&mut ours, c)),
+            _ => octets::run_fma(&mut ours, &src, c),
+        };
+        assert_eq!(said, Ok(zero), "kind {kind}, scalar {c}, {n} bytes");
+        assert_eq!(ours, due);
+        met[kind][usize::from(zero)] += 1;
+    }
+    assert!(met.iter().flatten().all(|n| *n >= 500), "{met:?}");
 }
 
 #[test]

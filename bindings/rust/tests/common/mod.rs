@@ -32,6 +32,13 @@ impl Random {
     }
 }
 
+/// a · b as RFC 6330 has it, without tables: copies of a, doubled, for the bits of b.
+pub fn product(a: u8, b: u8) -> u8 {
+    let double = |x: u8| (x << 1) ^ if x >= 128 { 29 } else { 0 };
+    let copies = std::iter::successors(Some(a), |x| Some(double(*x)));
+    copies.zip(0..8).filter(|(_, bit)| b >> bit & 1 == 1).fold(0, |sum, (copy, _)| sum ^ copy)
+}
+
 /// The part of the first rule that a row breaks, 0 where it keeps all: document 01's rules in plain Rust. Where L, P, B, P1 are given they have to follow.
 #[rustfmt::skip]
 pub fn part_due(five: [u32; 5], derived: Option<[u32; 4]>) -> u32 {
