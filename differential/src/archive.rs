@@ -31,18 +31,21 @@ octet_call!(octet_div, spoonripple_octet_div, a: u8, by: u8);
 octet_call!(octet_fma, spoonripple_octet_fma, a: u8, b: u8, c: u8);
 octet_call!(octet_alpha, spoonripple_octet_alpha, i: usize);
 
-#[inline]
-pub fn run_add(dst: &mut [u8], src: &[u8]) -> Answer<()> {
-    done(unsafe { spoonripple_run_add(dst.as_mut_ptr(), dst.len(), src.as_ptr(), src.len()) })
-}
+// These three, and the three on the symbols of a slab that end in `out` too, answer there whether all bytes of the destination are 0 now: 1, else 0.
 
-pub fn run_scale(dst: &mut [u8], c: u8) -> Answer<()> {
-    done(unsafe { spoonripple_run_scale(dst.as_mut_ptr(), dst.len(), c) })
+#[inline]
+pub fn run_add(dst: &mut [u8], src: &[u8], out: &mut [u64]) -> Answer<()> {
+    done(unsafe { spoonripple_run_add(dst.as_mut_ptr(), dst.len(), src.as_ptr(), src.len(), out.as_mut_ptr(), out.len()) })
 }
 
 #[inline]
-pub fn run_fma(dst: &mut [u8], src: &[u8], c: u8) -> Answer<()> {
-    done(unsafe { spoonripple_run_fma(dst.as_mut_ptr(), dst.len(), src.as_ptr(), src.len(), c) })
+pub fn run_scale(dst: &mut [u8], c: u8, out: &mut [u64]) -> Answer<()> {
+    done(unsafe { spoonripple_run_scale(dst.as_mut_ptr(), dst.len(), c, out.as_mut_ptr(), out.len()) })
+}
+
+#[inline]
+pub fn run_fma(dst: &mut [u8], src: &[u8], c: u8, out: &mut [u64]) -> Answer<()> {
+    done(unsafe { spoonripple_run_fma(dst.as_mut_ptr(), dst.len(), src.as_ptr(), src.len(), c, out.as_mut_ptr(), out.len()) })
 }
 
 pub fn payload_id_read(bytes: &[u8], out: &mut [u64]) -> Answer<()> {
@@ -113,17 +116,29 @@ pub fn slab_locate(len: usize, slab: Slab, order: &[u32], i: usize, out: &mut [u
 }
 
 #[inline]
-pub fn slab_add_assign(store: &mut [u8], slab: Slab, order: &[u32], dest: usize, src: usize) -> Answer<()> {
-    done(unsafe { spoonripple_slab_add_assign(store.as_mut_ptr(), store.len(), slab.count, slab.size, order.as_ptr(), order.len(), dest, src) })
+pub fn slab_add_assign(store: &mut [u8], slab: Slab, order: &[u32], dest: usize, src: usize, out: &mut [u64]) -> Answer<()> {
+    done(unsafe {
+        spoonripple_slab_add_assign(
+            store.as_mut_ptr(), store.len(), slab.count, slab.size, order.as_ptr(), order.len(), dest, src, out.as_mut_ptr(), out.len(),
+        )
+    })
 }
 
-pub fn slab_mulassign_scalar(store: &mut [u8], slab: Slab, order: &[u32], dest: usize, scalar: u8) -> Answer<()> {
-    done(unsafe { spoonripple_slab_mulassign_scalar(store.as_mut_ptr(), store.len(), slab.count, slab.size, order.as_ptr(), order.len(), dest, scalar) })
+pub fn slab_mulassign_scalar(store: &mut [u8], slab: Slab, order: &[u32], dest: usize, scalar: u8, out: &mut [u64]) -> Answer<()> {
+    done(unsafe {
+        spoonripple_slab_mulassign_scalar(
+            store.as_mut_ptr(), store.len(), slab.count, slab.size, order.as_ptr(), order.len(), dest, scalar, out.as_mut_ptr(), out.len(),
+        )
+    })
 }
 
 #[inline]
-pub fn slab_fma(store: &mut [u8], slab: Slab, order: &[u32], dest: usize, src: usize, scalar: u8) -> Answer<()> {
-    done(unsafe { spoonripple_slab_fma(store.as_mut_ptr(), store.len(), slab.count, slab.size, order.as_ptr(), order.len(), dest, src, scalar) })
+pub fn slab_fma(store: &mut [u8], slab: Slab, order: &[u32], dest: usize, src: usize, scalar: u8, out: &mut [u64]) -> Answer<()> {
+    done(unsafe {
+        spoonripple_slab_fma(
+            store.as_mut_ptr(), store.len(), slab.count, slab.size, order.as_ptr(), order.len(), dest, src, scalar, out.as_mut_ptr(), out.len(),
+        )
+    })
 }
 
 /// The numbers of a matrix: how many rows and columns.

@@ -1,6 +1,7 @@
-//! Octets: every pair, every exponent to 1,024, random multiply-adds, and runs of bytes.
+//! Octets: every pair, every exponent to 1,024, random multiply-adds, and runs of bytes with the answer whether they are all zero now.
 use differential::archive::{self, Answer};
 use differential::report::{Found, Report};
+use differential::telling::{self, Call, LENGTHS, left};
 use differential::{Random, caught, refusal, values};
 use raptorq::octet::Octet;
 use raptorq::octets;
@@ -52,27 +53,52 @@ fn triple(report: &mut Report, random: &mut Random) {
     single(report, random.room(1), NEVER, |out| archive::octet_fma(a, b, c, out), theirs, || format!("{a} + {b} * {c}"));
 }
 
+/// The length of a run: a telling one, one of a short run, or now and then a longer one.
+fn any_length(random: &mut Random) -> usize {
+    match random.below(100) {
+        0 => 65535,
+        1..5 => random.below(5000) as usize,
+        5..55 => LENGTHS[random.below(14) as usize],
+        _ => random.below(200) as usize,
+    }
+}
+
+/// A call on runs. The bytes are held to the crate; whether they are all zero now it does not say.
 fn run_of_octets(report: &mut Report, random: &mut Random) {
     // Scalars 0 and 1 are often among them.
-    let (n, c) = (random.below(200) as usize, random.byte() >> random.below(8));
-    let m = if random.below(4) == 0 { random.below(200) as usize } else { n };
-    let (dst, src) = (random.bytes(n), random.bytes(m));
-    let (mut ours, mut theirs) = (dst.clone(), dst.clone());
-    let kind = random.below(3);
-    let (answer, given) = match kind {
-        0 => (archive::run_add(&mut ours, &src), caught(|| octets::add_assign(&mut theirs, &src))),
-        1 => (archive::run_scale(&mut ours, c), caught(|| octets::mulassign_scalar(&mut theirs, &octet(c)))),
-        _ => (archive::run_fma(&mut ours, &src, c), caught(|| octets::fused_addassign_mul_scalar(&mut theirs, &src, &octet(c)))),
+    let (call, n, c) = (Call::any(random), any_length(random), random.byte() >> random.below(8));
+    let m = match random.below(16) {
+        0 | 1 => random.near(n),
+        2 => n + 1,
+        _ => n,
     };
-    let said = || format!("kind {kind}, scalar {c}, {dst:?}, {src:?}");
-    match refusal(&[(8, kind != 1 && n != m)]) {
-        Some(n) => report.listed("D3 (runs of two lengths)", answer == Err(n) && ours == dst && given.is_none(), said),
-        None if cfg!(debug_assertions) && kind == 2 && c < 2 => {
-            (0..c).for_each(|_| octets::add_assign(&mut theirs, &src));
-            report.listed("D4 (scalars 0 and 1)", answer == Ok(()) && given.is_none() && ours == theirs, said);
-        }
-        None => report.equal(answer == Ok(()) && given.is_some() && ours == theirs, said),
+    let src = if random.below(8) == 0 { vec![0; m] } else { random.bytes(m) };
+    let dst = call.before(left(random, n), &src, c);
+    let (mut ours, mut theirs) = (dst.clone(), dst.clone());
+    let room = random.room(1);
+    let answer = values(room, 1, |out| match call {
+        Call::Add => archive::run_add(&mut ours, &src, out),
+        Call::Scale => archive::run_scale(&mut ours, c, out),
+        Call::Fma => archive::run_fma(&mut ours, &src, c, out),
+    });
+    let given = caught(|| match call {
+        Call::Add => octets::add_assign(&mut theirs, &src),
+        Call::Scale => octets::mulassign_scalar(&mut theirs, &octet(c)),
+        Call::Fma => octets::fused_addassign_mul_scalar(&mut theirs, &src, &octet(c)),
+    });
+    let said = || format!("{call:?}, scalar {c}, room {room}, {dst:?}, {src:?}");
+    let unequal = call != Call::Scale && n != m;
+    if let Some(n) = refusal(&[(8, room < 1), (8, unequal)]) {
+        let kept = answer == Err(n) && ours == dst;
+        return if unequal { report.listed("D3 (runs of two lengths)", kept && given.is_none(), said) } else { report.refusal(kept, said) };
     }
+    if cfg!(debug_assertions) && call == Call::Fma && c < 2 {
+        (0..c).for_each(|_| octets::add_assign(&mut theirs, &src));
+        report.listed("D4 (scalars 0 and 1)", answer.is_ok() && given.is_none() && ours == theirs, said);
+    } else {
+        report.equal(answer.is_ok() && given.is_some() && ours == theirs, said);
+    }
+    telling::held(report, call, &theirs, &answer, said);
 }
 
 /// The digests that crates/field_vectors must print are those of the crate.
@@ -97,5 +123,6 @@ pub fn run(count: u64, seed: u64) -> Found {
     for _ in 0..count / 10 {
         run_of_octets(&mut report, &mut random);
     }
+    telling::met(&mut report, count);
     report.close()
 }

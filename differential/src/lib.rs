@@ -10,6 +10,7 @@ pub mod near;
 pub mod report;
 pub mod rows;
 pub mod system;
+pub mod telling;
 
 /// A small generator of its own (xorshift64*), so that a seed gives the same cases on every machine.
 pub struct Random(u64);

@@ -251,5 +251,5 @@ fn large(report: &mut Report, random: &mut Random) {
 }
 
 pub fn run(count: u64, seed: u64) -> Found {
-    area("matrix", count, seed, sequence, stores)
+    area("matrix", count, seed, sequence, stores).close()
 }

@@ -86,14 +86,27 @@ impl Report {
         refused
     }
 
-    /// That each of these parts was due at least so often: a run that met one less often shows less than it says, which is a difference. Only a run of the
-    /// default size or more is held to it; in a shorter one it may be chance.
+    /// That something was met at least so often: a run that met it less often shows less than it says, which is a difference. Only a run of the default size
+    /// or more is held to it; in a shorter one it may be chance.
+    fn often(&mut self, times: u64, least: u64, count: u64, what: impl FnOnce() -> String) {
+        if times < least && count >= DEFAULT_COUNT {
+            self.case(false, || format!("{} {times} times, and has to be {least} times", what()), |_| ());
+        }
+    }
+
+    /// That each of these parts was due at least so often.
     pub fn met(&mut self, parts: RangeInclusive<u32>, least: u64, count: u64) {
-        for part in parts.filter(|_| count >= DEFAULT_COUNT) {
+        for part in parts {
             let times = self.found.parts.get(&part).copied().unwrap_or(0);
-            if times < least {
-                self.case(false, || format!("part {part} of refusal 4 was due {times} times, and has to be {least} times"), |_| ());
-            }
+            self.often(times, least, count, || format!("part {part} of refusal 4 was due"));
+        }
+    }
+
+    /// That there were at least so many cases of each of these kinds.
+    pub fn met_kinds(&mut self, kinds: impl IntoIterator<Item = &'static str>, least: u64, count: u64) {
+        for kind in kinds {
+            let times = self.found.kinds.get(kind).copied().unwrap_or(0);
+            self.often(times, least, count, || format!("the kind '{kind}' was met"));
         }
     }
 
@@ -140,6 +153,7 @@ impl Found {
         line("refusals  refused here, and the crate cannot be asked: held to documents 01 and 02 alone");
         line("computed  answered here, and the crate cannot be asked: held to the harness's own computation");
         line("part      of refusal 4, below: in how many cases it was due");
+        line("yes, no   whether the destination of a call is all zero now, below: in how many cases the answer had to be which");
         line(&format!("\n{:<12} {:>10} {:>11} {:>10} {:>10} {:>10} {:>10}", "area", "cases", "differences", "equal", "listed", "refusals", "computed"));
     }
 
@@ -183,8 +197,8 @@ pub fn keep(area: &str, seed: u64, number: u64, bytes: &[u8]) -> String {
     }
 }
 
-/// An area of two kinds of cases: `count` of the first, a twentieth as many of the second.
-pub fn area(name: &'static str, count: u64, seed: u64, first: fn(&mut Report, &mut Random), second: fn(&mut Report, &mut Random)) -> Found {
+/// An area of two kinds of cases: `count` of the first, a twentieth as many of the second. It is not closed yet.
+pub fn area(name: &'static str, count: u64, seed: u64, first: fn(&mut Report, &mut Random), second: fn(&mut Report, &mut Random)) -> Report {
     let mut report = Report::new(name, seed);
     let mut random = Random::new(seed);
     for _ in 0..count {
@@ -193,5 +207,5 @@ pub fn area(name: &'static str, count: u64, seed: u64, first: fn(&mut Report, &m
     for _ in 0..count / 20 {
         second(&mut report, &mut random);
     }
-    report.close()
+    report
 }

@@ -1,18 +1,22 @@
-//! The symbol slab: random sequences of operations on both sides, the whole memory compared after each.
+//! The symbol slab: random sequences of operations on both sides, the whole memory compared after each; and the answers whether a symbol is all zero now.
 use differential::archive::{self, Answer, Slab};
 use differential::report::{Found, Report, area};
+use differential::telling::{self, Call};
 use differential::{Lent, Random, caught, refusal, values};
 use raptorq::octet::Octet;
 use raptorq::symbol_slab::SymbolSlab;
+use std::ops::Range;
 
 const COUNTS: [u64; 7] = [0, 1, 2, 3, 5, 8, 20];
 const SIZES: [u64; 14] = [0, 1, 2, 15, 16, 17, 63, 64, 65, 128, 255, 256, 257, 600];
+/// Around one chunk and two.
+const LONG: [u64; 6] = [1023, 1024, 1025, 2047, 2048, 2049];
 const ABOVE_LIMITS: &str = "D27 (stores above the limits)";
 
-/// One operation: its kind, its places, its scalar, and the room for what it answers.
+/// One operation: a call that changes a symbol, or without one where a symbol lies; its places, its scalar, and the room for what it answers.
 #[derive(Debug)]
 struct Step {
-    kind: u64,
+    call: Option<Call>,
     dest: usize,
     src: usize,
     scalar: u8,
@@ -22,10 +26,15 @@ struct Step {
 impl Step {
     fn any(random: &mut Random, count: usize) -> Step {
         let scalar = random.byte() >> random.below(8);
-        Step { kind: random.below(4), dest: random.near(count), src: random.near(count), scalar, room: random.room(2) }
+        let call = (random.below(4) > 0).then(|| Call::any(random));
+        Step { call, dest: random.near(count), src: random.near(count), scalar, room: random.room(if call.is_some() { 1 } else { 2 }) }
     }
     fn places(&self) -> Vec<usize> {
-        if self.kind == 1 || self.kind == 3 { vec![self.dest] } else { vec![self.dest, self.src] }
+        if matches!(self.call, Some(Call::Add | Call::Fma)) { vec![self.dest, self.src] } else { vec![self.dest] }
+    }
+    /// How many values it answers.
+    fn answers(&self) -> usize {
+        if self.call.is_some() { 1 } else { 2 }
     }
 }
 
@@ -38,15 +47,22 @@ fn physical(order: &[u32], i: usize) -> Option<usize> {
     if order.is_empty() { Some(i) } else { order.get(i).map(|place| *place as usize) }
 }
 
-/// What document 01 says of a step on a store of len bytes: the refusal, if there is one.
+/// The bytes of a symbol whose place is inside.
+fn bytes_of(slab: Slab, order: &[u32], i: usize) -> Range<usize> {
+    let t = usize::from(slab.size);
+    let at = physical(order, i).expect("it has a place") * t;
+    at..at + t
+}
+
+/// What documents 01 and 02 say of a step on a store of len bytes: the refusal, if there is one.
 fn refused(len: usize, slab: Slab, order: &[u32], step: &Step) -> Option<u32> {
     let places = step.places();
     let outside = |i: &usize| *i >= slab.count || physical(order, *i).is_none_or(|place| place >= slab.count);
     refusal(&[
         (2, slab.count > 131_070),
+        (8, step.room < step.answers()),
         (8, len < slab.count * usize::from(slab.size)),
         (8, strange(order, slab)),
-        (8, step.kind == 3 && step.room < 2),
         (6, places.iter().any(outside)),
         (7, places.len() == 2 && physical(order, places[0]) == physical(order, places[1])),
     ])
@@ -57,27 +73,26 @@ fn refused(len: usize, slab: Slab, order: &[u32], step: &Step) -> Option<u32> {
 fn takes(slab: Slab, order: &[u32], step: &Step) -> bool {
     let found: Vec<Option<usize>> = step.places().into_iter().map(|i| physical(order, i)).collect();
     let inside = |place: &Option<usize>| place.is_some_and(|p| p < slab.count || (slab.size == 0 && found.len() == 1));
-    found.iter().all(inside) && (found.len() == 1 || found[0] != found[1]) && !(cfg!(debug_assertions) && step.kind == 2 && step.scalar < 2)
+    found.iter().all(inside) && (found.len() == 1 || found[0] != found[1]) && !(cfg!(debug_assertions) && step.call == Some(Call::Fma) && step.scalar < 2)
 }
 
 fn ours(store: &mut [u8], slab: Slab, order: &[u32], step: &Step) -> Answer<Vec<u64>> {
-    let none = |()| vec![];
-    match step.kind {
-        0 => archive::slab_add_assign(store, slab, order, step.dest, step.src).map(none),
-        1 => archive::slab_mulassign_scalar(store, slab, order, step.dest, step.scalar).map(none),
-        2 => archive::slab_fma(store, slab, order, step.dest, step.src, step.scalar).map(none),
-        _ => values(step.room, 2, |out| archive::slab_locate(store.len(), slab, order, step.dest, out)),
-    }
+    values(step.room, step.answers(), |out| match step.call {
+        Some(Call::Add) => archive::slab_add_assign(store, slab, order, step.dest, step.src, out),
+        Some(Call::Scale) => archive::slab_mulassign_scalar(store, slab, order, step.dest, step.scalar, out),
+        Some(Call::Fma) => archive::slab_fma(store, slab, order, step.dest, step.src, step.scalar, out),
+        None => archive::slab_locate(store.len(), slab, order, step.dest, out),
+    })
 }
 
 /// The crate's answer is the bytes of the symbol, for `get`.
 fn theirs(slab: &mut SymbolSlab, step: &Step) -> Vec<u8> {
     let scalar = Octet::new(step.scalar);
-    match step.kind {
-        0 => slab.add_assign(step.dest, step.src),
-        1 => slab.mulassign_scalar(step.dest, &scalar),
-        2 => slab.fma(step.dest, step.src, &scalar),
-        _ => return slab.get(step.dest).to_vec(),
+    match step.call {
+        Some(Call::Add) => slab.add_assign(step.dest, step.src),
+        Some(Call::Scale) => slab.mulassign_scalar(step.dest, &scalar),
+        Some(Call::Fma) => slab.fma(step.dest, step.src, &scalar),
+        None => return slab.get(step.dest).to_vec(),
     }
     vec![]
 }
@@ -93,20 +108,43 @@ fn crates_slab(slab: Slab, order: &[u32], store: &[u8]) -> SymbolSlab {
     crates
 }
 
+/// How many symbols, of how many bytes; the long ones are few.
+fn any_slab(random: &mut Random) -> Slab {
+    let few = 2 + random.below(2) as usize;
+    match random.below(1024) {
+        0 => Slab { count: few, size: 65535 },
+        1..64 => Slab { count: few, size: LONG[random.below(6) as usize] as u16 },
+        _ => Slab { count: COUNTS[random.below(7) as usize] as usize, size: SIZES[random.below(14) as usize] as u16 },
+    }
+}
+
 fn sequence(report: &mut Report, random: &mut Random) {
-    let count = COUNTS[random.below(7) as usize] as usize;
-    let slab = Slab { count, size: SIZES[random.below(14) as usize] as u16 };
+    let slab = any_slab(random);
     let more = random.below(3) as usize;
     let mut store = random.bytes(slab.count * usize::from(slab.size) + more);
     // Entries repeat often, and some lie outside.
     let order: Vec<u32> = match random.below(3) {
         0 => vec![],
-        _ => (0..count).map(|_| random.near(count) as u32).collect(),
+        _ => (0..slab.count).map(|_| random.near(slab.count) as u32).collect(),
     };
     let mut crates = crates_slab(slab, &order, &store);
     for _ in 0..=random.below(4) {
-        one_step(report, &mut store, &mut crates, slab, &order, &Step::any(random, count));
+        let step = Step::any(random, slab.count);
+        if random.below(4) > 0 {
+            prepare(random, &mut store, &mut crates, slab, &order, &step);
+        }
+        one_step(report, &mut store, &mut crates, slab, &order, &step);
     }
+}
+
+/// On both sides the destination of a step that is not refused is made such that a telling symbol comes of it.
+fn prepare(random: &mut Random, store: &mut [u8], crates: &mut SymbolSlab, slab: Slab, order: &[u32], step: &Step) {
+    let Some(call) = step.call.filter(|_| refused(store.len(), slab, order, step).is_none()) else { return };
+    let src = if call == Call::Scale { vec![] } else { store[bytes_of(slab, order, step.src)].to_vec() };
+    let dst = call.before(telling::left(random, slab.size.into()), &src, step.scalar);
+    let at = bytes_of(slab, order, step.dest);
+    store[at.clone()].copy_from_slice(&dst);
+    crates.data[at].copy_from_slice(&dst);
 }
 
 fn one_step(report: &mut Report, store: &mut [u8], crates: &mut SymbolSlab, slab: Slab, order: &[u32], step: &Step) {
@@ -135,11 +173,17 @@ fn one_step(report: &mut Report, store: &mut [u8], crates: &mut SymbolSlab, slab
     }
     let used = crates.data.len();
     let memory = store[..used] == crates.data && store[used..] == before[used..];
+    let Some(call) = step.call else {
+        let shown = answer.map(|v| store[v[0] as usize..v[1] as usize].to_vec()).ok();
+        return report.equal(given.is_some() && shown == given && memory, said);
+    };
     if by_hand {
-        return report.listed("D4 (scalars 0 and 1)", answer == Ok(vec![]) && memory, said);
+        report.listed("D4 (scalars 0 and 1)", answer.is_ok() && memory, said);
+    } else {
+        report.equal(answer.is_ok() && given.is_some() && memory, said);
     }
-    let shown = answer.as_ref().map(|v| v.first().map_or(vec![], |_| store[v[0] as usize..v[1] as usize].to_vec())).ok();
-    report.equal(given.is_some() && shown == given && memory, said);
+    // The crate has no such answer.
+    telling::held(report, call, &crates.data[bytes_of(slab, order, step.dest)], &answer, said);
 }
 
 /// Zeros in a store of these bytes; what the store then holds.
@@ -180,5 +224,7 @@ fn many(report: &mut Report, random: &mut Random) {
 }
 
 pub fn run(count: u64, seed: u64) -> Found {
-    area("slab", count, seed, sequence, stores)
+    let mut report = area("slab", count, seed, sequence, stores);
+    telling::met(&mut report, count);
+    report.close()
 }

@@ -4,7 +4,7 @@ use differential::archive::{self, Arrived, Row, Stores};
 use differential::report::{Found, Report};
 use differential::rows::{self, any_tables, measures, part};
 use differential::system::{self, Verdict};
-use differential::{Random, caught, refusal, values};
+use differential::{Random, caught, refusal, telling, values};
 use raptorq::{EncodingPacket, ObjectTransmissionInformation, PayloadId, SourceBlockDecoder, SourceBlockEncoder};
 use raptorq_lent::rng::lent::published;
 
@@ -114,13 +114,17 @@ fn changed(packet: &EncodingPacket, change: impl FnOnce(&mut Vec<u8>)) -> Encodi
     EncodingPacket::new(id, symbol)
 }
 
-/// One time in four a bit of a symbol is flipped, or a packet comes once more with a bit flipped; the rule under which the crate does not see that.
+/// A bit of a symbol is flipped, often in its first or last octet, or a packet comes once more with a bit flipped; the rule under which the crate does not see
+/// that.
 fn spoil(random: &mut Random, packets: &mut Vec<EncodingPacket>) -> Option<&'static str> {
-    if packets.is_empty() || random.below(4) != 0 {
+    if packets.is_empty() {
         return None;
     }
     let at = random.below(packets.len() as u64) as usize;
-    let spoiled = changed(&packets[at], |symbol| symbol[0] ^= 1 << random.below(8));
+    let spoiled = changed(&packets[at], |symbol| {
+        let place = telling::place(random, symbol.len());
+        symbol[place] ^= 1 << random.below(8);
+    });
     if random.below(2) == 0 {
         packets[at] = spoiled;
         return Some("D19 (symbols that no set yields)");
@@ -134,12 +138,12 @@ fn any_size(random: &mut Random) -> u16 {
     if random.below(20) == 0 { 41 + random.below(260) as u16 } else { 1 + random.below(40) as u16 }
 }
 
-/// A block that the crate encoded, of which k + extra packets came.
-fn real(report: &mut Report, random: &mut Random, k: u32, t: u16, extra: i64) {
+/// A block that the crate encoded, of which k + extra packets came; one time in so many they are spoiled.
+fn real(report: &mut Report, random: &mut Random, k: u32, t: u16, extra: i64, odds: u64) {
     let tables = published();
     let block = Block::new(random, k, t);
     let mut packets = some(random, block.packets.clone(), (i64::from(k) + extra).max(0) as usize);
-    let rule = spoil(random, &mut packets);
+    let rule = if random.below(odds) == 0 { spoil(random, &mut packets) } else { None };
     let (esis, symbols) = apart(&packets);
     let came = Arrived { count: k, t, esis: &esis, symbols: &symbols };
     let (verdict, same, lent) = solved(random, block.row, &tables, came, &system::fixed(block.row, &tables, k));
@@ -212,6 +216,70 @@ fn made_up(report: &mut Report, random: &mut Random) {
         let (verdict, same, _) = solved(random, row, &tables, came, &fixed);
         report.of(kind(&verdict), same, || format!("{row:?}, tables {tables:?}, {came:?}, which is {verdict:?}"));
     }
+}
+
+const ONE_SUM: &str = "rows made 0 by one sum";
+const FIRST: &str = "contradictions in the first octet alone";
+const LAST: &str = "contradictions in the last octet alone";
+const BETWEEN: &str = "contradictions in one octet between";
+const LARGER: &str = "contradictions in the larger frame";
+
+/// T of telling symbols, often on either side of the bound between the frames.
+fn telling_size(random: &mut Random) -> usize {
+    match random.below(4) {
+        0 => 1,
+        1 => [2046, 2047, 2048, 2049, 2050][random.below(5) as usize],
+        2 => telling::LENGTHS[1 + random.below(13) as usize],
+        _ => 2 + random.below(40) as usize,
+    }
+}
+
+/// Which of the arrivals and, past them, of the padding rows is taken first: one of the least degree.
+fn first_taken(row: Row, tables: &[u32], count: u32, esis: &[u32]) -> usize {
+    let [.., p1] = rows::record(row);
+    let isis = esis.iter().map(|e| rows::shifted(row, count, *e)).chain(count..row[0]);
+    let degrees = isis.map(|x| rows::tuple(row, p1, tables, x)[0]).enumerate();
+    degrees.min_by_key(|(_, degree)| *degree).expect("there is an arrival").0
+}
+
+/// A packet comes twice: its second row is 0 once the first has gone off it, and by that one sum where it is the row that is taken first. All symbols are those
+/// of one fitting set, which may be all 0, but for one octet at most.
+fn dependent(report: &mut Report, random: &mut Random) {
+    let (row, tables, t) = (small_row(random), any_tables(random), telling_size(random));
+    let count = if random.below(2) == 0 { row[0] } else { 1 + random.below(u64::from(row[0])) as u32 };
+    let fixed = system::fixed(row, &tables, count);
+    let l = fixed[0].len();
+    let set = if random.below(2) == 0 { vec![0; l * t] } else { system::fitting(fixed.clone(), l, t, random) };
+    let wanted = if random.below(2) == 0 { 3 } else { count as usize };
+    let mut esis = any_esis(random, count, wanted);
+    esis.push(random.below(u64::from(count) + 60) as u32);
+    let (first, any) = (first_taken(row, &tables, count, &esis), random.below(esis.len() as u64) as usize);
+    let twice = esis[if first < esis.len() && random.below(2) == 0 { first } else { any }];
+    esis.insert(random.below(esis.len() as u64 + 1) as usize, twice);
+    let one_sum = esis.get(first_taken(row, &tables, count, &esis)) == Some(&twice);
+    let mut symbols: Vec<u8> = esis.iter().flat_map(|e| system::made(&system::sent(row, &tables, count, *e), &set, t)).collect();
+    let damaged = (random.below(3) > 0).then(|| telling::place(random, t));
+    if let Some(place) = damaged {
+        let at = if random.below(2) == 0 { esis.iter().position(|e| *e == twice) } else { None };
+        let at = at.unwrap_or_else(|| random.below(esis.len() as u64) as usize);
+        symbols[at * t + place] ^= telling::other(random);
+    }
+    let came = Arrived { count, t: t as u16, esis: &esis, symbols: &symbols };
+    let (verdict, same, _) = solved(random, row, &tables, came, &fixed);
+    if one_sum {
+        report.kind(ONE_SUM);
+    }
+    if let (Verdict::Contradiction, Some(place)) = (&verdict, damaged) {
+        report.kind(match place {
+            0 => FIRST,
+            _ if place + 1 == t => LAST,
+            _ => BETWEEN,
+        });
+        if t > 2048 {
+            report.kind(LARGER);
+        }
+    }
+    report.of(kind(&verdict), same, || format!("{row:?}, tables {tables:?}, {came:?}, which is {verdict:?}"));
 }
 
 /// A call that may be refused, whole.
@@ -423,7 +491,7 @@ pub fn run(count: u64, seed: u64) -> Found {
         for k in 1..=300 {
             for extra in [0, 1, 2, 3, -1 - (turn as i64 + i64::from(k)) % 3] {
                 let t = any_size(&mut random);
-                real(&mut report, &mut random, k, t, extra);
+                real(&mut report, &mut random, k, t, extra, 4);
             }
         }
     }
@@ -432,13 +500,15 @@ pub fn run(count: u64, seed: u64) -> Found {
     let mut times = |n: u64, case: fn(&mut Report, &mut Random)| (0..n).for_each(|_| case(&mut report, &mut random));
     times(count / 1000, other_length);
     times(count / 50, made_up);
+    times(count / 250, dependent);
     times(count / 10, refused);
     times(count / 10, display);
     // The solver has another frame from L or T of 2,049 on: blocks on both sides (the rows of K' = 1,954 and 1,979 have L = 2,048 and 2,073).
     for (k, t) in [(10, 2048), (10, 2049), (10, 65535), (1954, 1), (1979, 1)] {
-        [0, 2, -2].into_iter().for_each(|extra| real(&mut report, &mut random, k, t, extra));
+        [(0, 4), (2, 4), (-2, 4), (3, 1)].into_iter().for_each(|(extra, odds)| real(&mut report, &mut random, k, t, extra, odds));
     }
     records::tried(&mut report, &mut random, count / 500, &records::SOLVER, 10);
     report.met(1..=10, 1000, count);
+    report.met_kinds([ONE_SUM, FIRST, LAST, BETWEEN, LARGER], 100, count);
     report.close()
 }

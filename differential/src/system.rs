@@ -13,7 +13,7 @@ fn product(a: u8, b: u8) -> u8 {
 static PRODUCTS: LazyLock<Vec<[u8; 256]>> = LazyLock::new(|| (0..=255).map(|a| std::array::from_fn(|b| product(a, b as u8))).collect());
 
 /// `by` times row `b` is added to row `a`.
-fn add(a: &mut [u8], by: u8, b: &[u8]) {
+pub fn add(a: &mut [u8], by: u8, b: &[u8]) {
     if by == 1 {
         return a.iter_mut().zip(b).for_each(|(x, y)| *x ^= y);
     }
@@ -21,11 +21,11 @@ fn add(a: &mut [u8], by: u8, b: &[u8]) {
     a.iter_mut().zip(b).for_each(|(x, y)| *x ^= times[*y as usize]);
 }
 
-fn scale(a: &mut [u8], by: u8) {
+pub fn scale(a: &mut [u8], by: u8) {
     a.iter_mut().for_each(|x| *x = PRODUCTS[by as usize][*x as usize]);
 }
 
-fn inverse(a: u8) -> u8 {
+pub fn inverse(a: u8) -> u8 {
     (1..=255).find(|b| PRODUCTS[a as usize][*b as usize] == 1).expect("an octet that is not 0")
 }
 
