@@ -1,7 +1,8 @@
 //! Runs of octets: add, multiply-add and scale against loops in plain Rust that write the same bytes and answer the same, whether all of them are 0 now.
 //! There the bytes are gathered by `|` as they are written, and products are by a table of all 65,536.
 use crate::{line, ratio};
-use differential::{Random, archive};
+use differential::Random;
+use differential::archive::{self, Answer};
 use raptorq::octet::Octet;
 use std::hint::black_box;
 
@@ -35,6 +36,25 @@ fn scale(dst: &mut [u8], products: &[u8; 256]) -> bool {
     seen == 0
 }
 
+/// Both sides write the same and answer the same, once no and once yes of each call, else no time means anything.
+fn agree(src: &[u8], products: &[[u8; 256]]) {
+    let (mut ours, mut theirs, mut zero) = (vec![0; src.len()], vec![0; src.len()], [2]);
+    let mut same = |answer: u64, call: &dyn Fn(&mut [u8], &mut [u64]) -> Answer<()>, plain: &dyn Fn(&mut [u8]) -> bool| {
+        let told = plain(&mut theirs);
+        assert!(call(&mut ours, &mut zero).is_ok() && ours == theirs && zero == [answer] && told == (answer == 1), "both give the same");
+    };
+    for answer in [0, 1] {
+        same(answer, &|dst, out| archive::run_add(dst, src, out), &|dst| add(dst, src));
+    }
+    for answer in [0, 1] {
+        same(answer, &|dst, out| archive::run_fma(dst, src, 77, out), &|dst| fma(dst, src, &products[77]));
+    }
+    same(0, &|dst, out| archive::run_add(dst, src, out), &|dst| add(dst, src));
+    for (answer, c) in [(0, 77), (1, 0)] {
+        same(answer, &|dst, out| archive::run_scale(dst, c, out), &|dst| scale(dst, &products[c as usize]));
+    }
+}
+
 /// Ours over theirs, both with each of the scalars in turn.
 fn in_turn(times: usize, scalars: &[u8], mut ours: impl FnMut(u8), mut theirs: impl FnMut(u8)) -> f64 {
     let (mut i, mut j) = (0, 0);
@@ -50,6 +70,7 @@ pub fn run() {
     let mut random = Random::new(1);
     for n in [16, 256, 1024, 65535] {
         let (mut dst, src) = (random.bytes(n), random.bytes(n));
+        agree(&src, &products);
         let mut other = dst.clone();
         let scalars = random.bytes(64);
         let times = (20_000_000 / n).max(64);

@@ -108,6 +108,7 @@ impl System<'_> {
         self.sift();
         let c = first_other(&self.row, 0);
         if c == l {
+            // Ours is told by the last sum whether the symbol is 0. Few rows depend on others, and here the symbol is looked at, as ours was once.
             return first_other(&self.symbol, 0) == t;
         }
         self.make_one(c);

@@ -1,8 +1,8 @@
 //! The two stores against the crate's own functions, which use the widest vectors that the machine has. Ours answer besides whether the symbol is all zero
 //! now; the crate's do not, and its callers would look at the symbol again: that look is not timed here. bench/field has the loops that answer the same.
 use crate::{line, ratio};
-use differential::Random;
 use differential::archive::{self, Shape, Slab};
+use differential::{Random, telling};
 use raptorq::matrix::{BinaryMatrix, DenseBinaryMatrix};
 use raptorq::octet::Octet;
 use raptorq::symbol_slab::SymbolSlab;
@@ -16,7 +16,7 @@ fn slab(random: &mut Random, size: u16) {
     theirs.data = store.clone();
     let times = (4_000_000 / usize::from(size)).max(64);
     let (mut i, mut j) = (0, 0);
-    let mut zero = [0];
+    let mut zero = [2];
     let r = ratio(
         times,
         &mut || {
@@ -42,6 +42,9 @@ fn slab(random: &mut Random, size: u16) {
         },
     );
     line(&format!("slab multiply-add, T = {size}"), "the crate", r, None);
+    // The last call was on this symbol.
+    let symbol = &store[i * usize::from(size)..][..size.into()];
+    assert!(store == theirs.data && zero == [telling::all_zero(symbol).into()], "both leave the same, and ours answers");
 }
 
 fn matrix(random: &mut Random, width: usize) {
