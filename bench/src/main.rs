@@ -16,13 +16,12 @@ pub fn timed(times: usize, work: &mut dyn FnMut()) -> f64 {
     start.elapsed().as_secs_f64()
 }
 
-/// Ours over theirs: each is the best of 45 rounds, taken in turns so that both see the same machine. They are short, a fifth of `times`, so that some of them
-/// are not disturbed: a call on 16 bytes takes no longer than a few nanoseconds.
+/// Ours over theirs: each is the best of nine rounds, taken in turns so that both see the same machine.
 pub fn ratio(times: usize, ours: &mut dyn FnMut(), theirs: &mut dyn FnMut()) -> f64 {
     let (mut a, mut b) = (f64::MAX, f64::MAX);
-    for _ in 0..45 {
-        a = a.min(timed(times.div_ceil(5), ours));
-        b = b.min(timed(times.div_ceil(5), theirs));
+    for _ in 0..9 {
+        a = a.min(timed(times, ours));
+        b = b.min(timed(times, theirs));
     }
     a / b
 }
