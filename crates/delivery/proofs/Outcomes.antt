@@ -69,6 +69,7 @@ stop-back (Stops.Refused Why.SamePlace) = refl
 stop-back (Stops.Refused Why.WrongLength) = refl
 stop-back (Stops.Refused Why.BadCount) = refl
 stop-back (Stops.Refused Why.BadSize) = refl
+stop-back (Stops.Refused Why.NotBegun) = refl
 stop-back Stops.TooLarge = refl
 stop-back Stops.SeveralBlocks = refl
 stop-back Stops.OtherBlock = refl

@@ -144,18 +144,20 @@ pub answered-clash : {M L T : ℕ} (a d o : List ℕ) {a₂ d₂ a₁ d₁ : Lis
 answered-clash a d o bd u (ra, rd) (wa, (wd, is)) =
     rw is (record { answer = λ S small first. (held-denied first bd u, refl); rows = only-then ra wa; symbols = only-then rd wd })
 
--- what r held equations come to, in the stores a₂ and d₂
+-- what r held equations come to, of any system that they say
+pub means-held : {L T r : ℕ} (ps a d o : List ℕ) {o₁ : List ℕ} (S : System ℕ) → 0 < T → Stepped L r (column ps) a d → Settles L T r ps a d o o₁
+    → OctetSymbols T S → Holds r L T S a d → (w : Verdict) → HeldVerdict L r w → Means L T S o o₁ w
+means-held ps a d o S pos stands e small holds Solved full = (e .solved full pos stands S small holds, e .past)
+means-held ps a d o S pos stands e small holds Contradiction q = absurd q
+means-held {L} {T} ps a d o S pos stands e small holds (Open s) (short, is) =
+    (stepped-open stands holds small pos short, subst (ShortfallBytes L T S) (sym is) (stepped-shortfall stands holds), e .short short)
+
+-- so in the stores a₂ and d₂
 pub answered-held : {M L T r : ℕ} (ps a d o a₂ d₂ : List ℕ) {a₁ d₁ o₁ : List ℕ} (v : Verdict) {w : Verdict} → 0 < T → Under L T M r ps a d a₂ d₂
     → Settles L T r ps a₂ d₂ o o₁ → HeldVerdict L r v → Cleared M L T a₂ d₂ a₁ d₁ v w → Answered M L T a d o a₁ d₁ o₁ w
-answered-held {M} {L} {T} {r} ps a d o a₂ d₂ {o₁ = o₁} v pos u e h (wa, (wd, is)) =
+answered-held ps a d o a₂ d₂ v pos u e h (wa, (wd, is)) =
     rw is (record {
-      answer = λ S small first. means S small (holds-trans first (u .holds)) v h;
+      answer = λ S small first. means-held ps a₂ d₂ o S pos (u .stands) e small (holds-trans first (u .holds)) v h;
       rows = only-then (u .rows) wa;
       symbols = only-then (u .symbols) wd;
     })
-  where
-    means : (S : System ℕ) → OctetSymbols T S → Holds r L T S a₂ d₂ → (w : Verdict) → HeldVerdict L r w → Means L T S o o₁ w
-    means S small holds Solved full = (e .solved full pos (u .stands) S small holds, e .past)
-    means S small holds Contradiction q = absurd q
-    means S small holds (Open s) (short, is) =
-        (stepped-open (u .stands) holds small pos short, subst (ShortfallBytes L T S) (sym is) (stepped-shortfall (u .stands) holds), e .short short)

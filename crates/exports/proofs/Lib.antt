@@ -2,3 +2,4 @@
 pub mod Calls
 pub mod Solving
 pub mod Once
+pub mod Asking

@@ -3,3 +3,4 @@ pub mod Call
 pub mod Numbers
 pub mod Solving
 pub mod Stores
+pub mod Intakes

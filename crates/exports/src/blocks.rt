@@ -1,19 +1,18 @@
 // A block's symbols: solving, the encoding of one, and where a source symbol is displayed from (document 01, 'Solver and symbols').
 ghost use mathlib.Core.Path.{_≡_};
 ghost use mathlib.Core.List.{[]};
-ghost use Prim.Native.Nat.{_≤_};
 ghost use lib.Dec.{ltb};
 ghost use lib.ListN.{length};
-ghost use Rattle.field.specs.Answer.{done, given};
+ghost use Rattle.field.specs.Answer.{done};
 ghost use Rattle.field.specs.Choice.{pick};
 ghost use Rattle.encoding.specs.Encoded.{Encodes};
-ghost use Rattle.exports.specs.Call.{Called, Kept, Reports, code};
+ghost use Rattle.exports.specs.Call.{Called, Reports, code};
 ghost use Rattle.exports.specs.Numbers.{row};
-ghost use Rattle.exports.specs.Solving.{Solving, displayed, lacking, taken, verdictCode};
+ghost use Rattle.exports.specs.Solving.{Solving, displayed, taken};
 use crate::values::hand;
 use crate::values::handed_row;
+use crate::values::tell;
 use crate::values::told;
-use elimination::verdict::Verdict;
 use encoding::encoder;
 use field::refusal::code;
 use headers::row::Row;
@@ -47,21 +46,6 @@ pub extern "C" fn spoonripple_encode(
 {
     let r = handed_row(k, j, s, h, w, l, p, b, p1);
     told(encoder::encode(r, tables, count, t, esi, intermediates, out))
-}
-
-// A verdict's number; how many independent rows an open system lacks goes to the front of `shortfall`.
-fn tell(v: Verdict, shortfall: &mut [u64]) -> u32
-    requires { ⌜ 1 ≤ length (now shortfall) ⌝ }
-    ensures { λ r. ⌜ (r ≡ verdictCode v) × Kept (given (lacking v)) (now (shortfall .entry)) (now (shortfall .exit)) ⌝ }
-{
-    match v {
-        Verdict::Solved => 0,
-        Verdict::Contradiction => 100,
-        Verdict::Open(rows) => {
-            shortfall[0] = rows as u64;
-            101
-        }
-    }
 }
 
 // The refusal of a call that was lent no room for a shortfall: with no room for rows `solve` refuses, by 8 at the latest.

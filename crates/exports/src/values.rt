@@ -1,14 +1,17 @@
 // How a row comes from the caller, and an answer reaches it.
 ghost use mathlib.Core.Path.{_≡_};
 ghost use mathlib.Core.List.{[], _∷_};
+ghost use Prim.Native.Nat.{_≤_};
 ghost use lib.ListN.{length};
 ghost use Rattle.field.specs.Answer.{done, given, octetOutcome};
 ghost use Rattle.headers.specs.Number.{numberOutcome};
 ghost use Rattle.slab.specs.Slab.{changedOutcome, slabOutcome};
 ghost use Rattle.stores.specs.Matrix.{counted, matrixOutcome};
-ghost use Rattle.exports.specs.Call.{Called, code, listed, single, roomed, thenRoomed};
+ghost use Rattle.exports.specs.Call.{Called, Kept, code, listed, single, roomed, thenRoomed};
 ghost use Rattle.exports.specs.Numbers.{row};
+ghost use Rattle.exports.specs.Solving.{lacking, verdictCode};
 ghost use Rattle.exports.specs.Stores.{flag};
+use elimination::verdict::Verdict;
 use field::octet;
 use field::refusal::Answer;
 use field::refusal::code;
@@ -130,5 +133,20 @@ pub fn hand_zero(c: Changed, out: &mut [u64]) -> u32
     match c {
         Changed::AllZero(zero) => hand_one(zero as u64, out),
         Changed::Refused(why) => code(why),
+    }
+}
+
+// A verdict's number; how many independent rows an open system lacks goes to the front of `shortfall`.
+pub fn tell(v: Verdict, shortfall: &mut [u64]) -> u32
+    requires { ⌜ 1 ≤ length (now shortfall) ⌝ }
+    ensures { λ r. ⌜ (r ≡ verdictCode v) × Kept (given (lacking v)) (now (shortfall .entry)) (now (shortfall .exit)) ⌝ }
+{
+    match v {
+        Verdict::Solved => 0,
+        Verdict::Contradiction => 100,
+        Verdict::Open(rows) => {
+            shortfall[0] = rows as u64;
+            101
+        }
     }
 }

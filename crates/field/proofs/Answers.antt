@@ -88,8 +88,9 @@ part-high Why.SamePlace = omega arith
 part-high Why.WrongLength = omega arith
 part-high Why.BadCount = omega arith
 part-high Why.BadSize = omega arith
+part-high Why.NotBegun = omega arith
 
-pub number-high : (w : Refusal) → numberOf w ≤ 10
+pub number-high : (w : Refusal) → numberOf w ≤ 14
 number-high Why.DivisorZero = omega arith
 number-high Why.OutOfRange = omega arith
 number-high Why.BadTransmission = omega arith
@@ -100,6 +101,7 @@ number-high Why.SamePlace = omega arith
 number-high Why.WrongLength = omega arith
 number-high Why.BadCount = omega arith
 number-high Why.BadSize = omega arith
+number-high Why.NotBegun = omega arith
 
 -- a code's low byte is the number, and what stands above it is the part
 pub code-number : (w : Refusal) → numberIn (codeOf w) ≡ numberOf w
@@ -113,7 +115,7 @@ abbrev namedBy : ℕ → ℕ → Refusal
 namedBy n p =
     pick (eqb n 1) Why.DivisorZero (pick (eqb n 2) Why.OutOfRange (pick (eqb n 3) Why.BadTransmission (pick (eqb n 4) (Why.BadRow (partNamed p))
     (pick (eqb n 5) Why.BadTables (pick (eqb n 6) Why.Outside (pick (eqb n 7) Why.SamePlace (pick (eqb n 8) Why.WrongLength
-    (pick (eqb n 9) Why.BadCount Why.BadSize))))))))
+    (pick (eqb n 9) Why.BadCount (pick (eqb n 10) Why.BadSize Why.NotBegun)))))))))
 
 named-by : (w : Refusal) → namedBy (numberOf w) (partOf w) ≡ w
 named-by Why.DivisorZero = refl
@@ -126,6 +128,7 @@ named-by Why.SamePlace = refl
 named-by Why.WrongLength = refl
 named-by Why.BadCount = refl
 named-by Why.BadSize = refl
+named-by Why.NotBegun = refl
 
 -- the refusal of a code
 abbrev pub named : ℕ → Refusal

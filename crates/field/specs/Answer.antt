@@ -45,7 +45,7 @@ Does of o xs P r ys = (of r ≡ o) × Left (of r) xs ys (P ys)
 abbrev pub Tells : {R : Type 0} → (R → Outcome Bool) → Outcome (Unit {0}) → List ℕ → (ℕ → ℕ) → (at n : ℕ) → R → List ℕ → Type 0
 Tells of o xs f at n r ys = Does of (before o (given (zeroFrom ys at n))) xs (λ zs. Written f xs zs at n) r ys
 
--- document 01, 'Refusal numbers'
+-- document 01, 'Refusal numbers'; 14 is of document 02, E1
 abbrev pub numberOf : Refusal → ℕ
 numberOf Why.DivisorZero = 1
 numberOf Why.OutOfRange = 2
@@ -57,6 +57,7 @@ numberOf Why.SamePlace = 7
 numberOf Why.WrongLength = 8
 numberOf Why.BadCount = 9
 numberOf Why.BadSize = 10
+numberOf Why.NotBegun = 14
 
 -- document 02, E7: where the rule of a part stands among the rules of a row
 abbrev pub placeOf : Part → ℕ
@@ -83,6 +84,7 @@ partOf Why.SamePlace = 0
 partOf Why.WrongLength = 0
 partOf Why.BadCount = 0
 partOf Why.BadSize = 0
+partOf Why.NotBegun = 0
 
 -- number and part as one, which an outcome carries and C is told; the theorems `code-number` and `code-part` say that it is read back so
 abbrev pub coded : ℕ → ℕ → ℕ

@@ -1,4 +1,4 @@
-// Why a call refuses. One enum for all layers, numbered as document 01 numbers them; a row that is refused has a part besides (document 02, E7).
+// Why a call refuses. One enum for all layers, numbered as documents 01 and 02 number them; a row that is refused has a part besides (document 02, E7).
 ghost use mathlib.Core.Path.{_≡_};
 ghost use Rattle.field.specs.Answer.{codeOf, numberOf, partOf, placeOf};
 
@@ -27,6 +27,7 @@ pub enum Refusal {
     WrongLength,
     BadCount,
     BadSize,
+    NotBegun,
 }
 
 // What a call answers that has nothing to tell but that it was done.
@@ -49,6 +50,7 @@ pub fn number(why: Refusal) -> u32
         Refusal::WrongLength => 8,
         Refusal::BadCount => 9,
         Refusal::BadSize => 10,
+        Refusal::NotBegun => 14,
     }
 }
 
@@ -85,6 +87,7 @@ pub fn part_of(why: Refusal) -> u32
         Refusal::WrongLength => 0,
         Refusal::BadCount => 0,
         Refusal::BadSize => 0,
+        Refusal::NotBegun => 0,
     }
 }
 

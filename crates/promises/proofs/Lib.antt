@@ -1,4 +1,5 @@
--- The theorems of demand 3 about calls. A crate above names these as `Rattle.promises.proofs.Growth`.
+-- The theorems of demand 3 about calls, and of document 02, E1, about nights. A crate above names these as `Rattle.promises.proofs.Growth`.
+pub mod Among
 pub mod Equations
 pub mod Fitting
 pub mod Exactly
@@ -9,3 +10,8 @@ pub mod Twice
 pub mod Fewer
 pub mod Reencoding
 pub mod Listening
+pub mod Unbegun
+pub mod Nights
+pub mod Intake
+pub mod Stretches
+pub mod Accepting

@@ -6,15 +6,15 @@ use mathlib.Core.List.{List, [], _∷_, _++_}
 use Prim.Native.Nat.{ℕ, _+_, _*_, _<_}
 use native.Mathlib.Decide.{decLt}
 use native.Mathlib.Omega.{arith}
-use lib.ListN.{length, getD, length-append, List·getD-append}
+use lib.ListN.{length, getD, length-append}
 use lib.Seq.{getD-append-seam, getD-append-add}
 use Rattle.headers.specs.declared.row.Row.{Row}
 use Rattle.linear.specs.Bytes.{cell}
-use Rattle.linear.proofs.Bytes.{cell-lt}
 use Rattle.elimination.specs.declared.verdict.Verdict.{Verdict}
 use Rattle.elimination.specs.declared.verdict.Verdict.the-variants.{Solved, Contradiction}
 use Rattle.solver.specs.declared.solver.Solution.the-variants.{Given}
 use Rattle.promises.specs.Calls.{Call, Came, Among, sent, setIn}
+use Rattle.promises.proofs.Among.{old-esi, old-symbol, among-more}
 use Rattle.promises.proofs.Exactly.{accepted, contradiction-exactly}
 use Rattle.promises.proofs.Order.{order-free, order-free-out}
 
@@ -33,24 +33,15 @@ twice-contradicts {v} {r} {k} {t} {es} {xs} {o} {o₁} {e} {f} {g} x y b l diffe
 
 -- arrivals es, xs, and e with the symbol s behind them
 module _ (t e : ℕ) (es xs s : List ℕ) (all : length xs ≡ length es * t) where
-  old-esi : (i : ℕ) → i < length es → getD (es ++ (e ∷ [])) i 0 ≡ getD es i 0
-  old-esi i h = List·getD-append es (e ∷ []) 0 i h
-
-  old-symbol : (i b : ℕ) → i < length es → b < t → cell t (xs ++ s) i b ≡ cell t xs i b
-  old-symbol i b h l = List·getD-append xs s 0 (i * t + b) (omega (arith, all, cell-lt t (length es) i b h l))
-
   new-symbol : (b : ℕ) → cell t (xs ++ s) (length es) b ≡ getD s b 0
   new-symbol b = ap (λ (n : ℕ). getD (xs ++ s) (n + b) 0) (sym all) ∙ getD-append-add xs s b 0
-
-  among-more : Among t es xs (es ++ (e ∷ [])) (xs ++ s)
-  among-more = record { each = λ i h. record { place = i; below = omega (arith, length-append es (e ∷ [])); esi = sym (old-esi i h); symbol = λ b l. sym (old-symbol i b h l) } }
 
   -- if e came with s before, there is nothing new
   none-new : Came t es xs e (λ b. getD s b 0) → Among t (es ++ (e ∷ [])) (xs ++ s) es xs
   none-new x = record { each = λ i h. go i h (decLt i (length es)) }
     where
       go : (i : ℕ) → i < length (es ++ (e ∷ [])) → Dec (i < length es) → Came t es xs (getD (es ++ (e ∷ [])) i 0) (cell t (xs ++ s) i)
-      go i h (yes l) = record { place = i; below = l; esi = old-esi i l; symbol = λ b q. old-symbol i b l q }
+      go i h (yes l) = record { place = i; below = l; esi = old-esi t es xs (e ∷ []) s all i l; symbol = λ b q. old-symbol t es xs (e ∷ []) s all i b l q }
       go i h (no l) =
           let q : i ≡ length es = omega (arith, length-append es (e ∷ [])) in
           record {
@@ -65,8 +56,10 @@ module _ {v : List ℕ} {r : Row} {k t : ℕ} {es xs o o₁ p p₁ : List ℕ} (
   -- the verdict is the same, with its shortfall, and so is the set
   pub repeat-changes-nothing : (w u : Verdict) → Call r v k t es xs o o₁ (Given w) → Call r v k t (es ++ (e ∷ [])) (xs ++ s) p p₁ (Given u)
       → (w ≡ u) × (w ≡ Solved → setIn r t o₁ ≡ setIn r t p₁)
-  repeat-changes-nothing w u c = order-free (among-more t e es xs s (accepted w c .fillable .all)) (none-new t e es xs s (accepted w c .fillable .all) came) w u c
+  repeat-changes-nothing w u c = order-free (among-more t es xs (e ∷ []) s (accepted w c .fillable .all))
+      (none-new t e es xs s (accepted w c .fillable .all) came) w u c
 
   -- and so is the whole out store, if it was the same before
   pub repeat-changes-no-octet : o ≡ p → (w u : Verdict) → Call r v k t es xs o o₁ (Given w) → Call r v k t (es ++ (e ∷ [])) (xs ++ s) p p₁ (Given u) → o₁ ≡ p₁
-  repeat-changes-no-octet q w u c = order-free-out (among-more t e es xs s (accepted w c .fillable .all)) (none-new t e es xs s (accepted w c .fillable .all) came) q w u c
+  repeat-changes-no-octet q w u c = order-free-out (among-more t es xs (e ∷ []) s (accepted w c .fillable .all))
+      (none-new t e es xs s (accepted w c .fillable .all) came) q w u c

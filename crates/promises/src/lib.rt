@@ -1,1 +1,2 @@
-// Theory only: what demand 3 promises of calls of `solve` and `encode`, from their contracts alone. Its words are in specs/, its theorems in proofs/.
+// Theory only: what demand 3 promises of calls of `solve`, of `encode` and of the intake, from their contracts alone. Its words are in specs/, its theorems
+// in proofs/.

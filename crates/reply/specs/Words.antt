@@ -36,6 +36,7 @@ refusalWords t Why.SamePlace = ascii "refused 7: destination and source are one\
 refusalWords t Why.WrongLength = ascii "refused 8: the delivery ends in its first 32 bytes\n"
 refusalWords t Why.BadCount = ascii "refused 9: the count of source symbols is not from 1 to K'\n"
 refusalWords t Why.BadSize = ascii "refused 10: the symbol size is 0, or the last packet is not whole\n"
+refusalWords t Why.NotBegun = ascii "refused 14: nothing was begun\n"
 
 abbrev pub stopWords : Typed → Stop → List ℕ
 stopWords t (Stops.Refused why) = refusalWords t why

@@ -78,8 +78,8 @@ module _ (r : Row) (v : List ℕ) (k t : ℕ) (es xs : List ℕ) where
     inside : (j : ℕ) → j < n → at j < M
     inside j h = let q = place-below (keyOf v r k es) j n h in omega arith
 
-    to : Included L t S R
-    to =
+    pub system-stored : Included L t S R
+    system-stored =
         groups-in (hdpcRows v r) r v k t es xs L t (λ i h. (n + i, omega arith, ldpc-same i h)) (λ i h. (n + r .s + i, omega arith, hdpc-same i h))
         (λ i h. (at (length es + i), inside (length es + i) (omega arith), padding-same i h)) (λ i h. (at i, inside i (omega arith), arrival-same i h))
 
@@ -87,8 +87,8 @@ module _ (r : Row) (v : List ℕ) (k t : ℕ) (es xs : List ℕ) where
     found : {G : System ℕ} {i e e₁ : ℕ} → SameEquation L t G i R e₁ → OneOf L t G i S → e₁ ≡ e → OneOf L t R e S
     found s o q = subst (λ (x : ℕ). OneOf L t R x S) q (one-then (same-turned s) o)
 
-    back : Included L t R S
-    back e h = go (decLt e n) (decLt e (n + r .s))
+    pub stored-system : Included L t R S
+    stored-system e h = go (decLt e n) (decLt e (n + r .s))
       where
         sent : (j : ℕ) → j < n → at j ≡ e → Dec (j < length es) → OneOf L t R e S
         sent j b q (yes x) = found (arrival-same j x) (has-arrivals (hdpcRows v r) r v k t es xs L t j x) q
@@ -107,4 +107,4 @@ module _ (r : Row) (v : List ℕ) (k t : ℕ) (es xs : List ℕ) where
             found (hdpc-same i (omega arith)) (has-hdpc (hdpcRows v r) r v k t es xs L t i (omega arith)) (omega arith)
 
     pub holds : Holds M L t S a d
-    holds = holds-included back to
+    holds = holds-included stored-system system-stored

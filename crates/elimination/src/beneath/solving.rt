@@ -25,7 +25,7 @@ pub enum Progress {
 }
 
 // How many are held, with r before.
-fn held_now(r: usize, x: Taken) -> Progress
+pub fn held_now(r: usize, x: Taken) -> Progress
     requires { ⌜ r ≤ 65535 ⌝ }
     ensures { λ p. ⌜ p ≡ progressed r x ⌝ }
 {
@@ -119,7 +119,7 @@ fn forward_in(
 }
 
 // What r held equations in l symbols come to.
-fn counted(l: usize, r: usize) -> Verdict
+pub fn counted(l: usize, r: usize) -> Verdict
     requires { ⌜ l ≤ 65535 ⌝ }
     ensures { λ v. ⌜ HeldVerdict l r v ⌝ }
 {

@@ -60,6 +60,7 @@ fn refused(out: &mut [u8], why: Refusal, t: Typed) -> usize
             out,
             b"refused 10: the symbol size is 0, or the last packet is not whole\n",
         ),
+        Refusal::NotBegun => write_line(out, b"refused 14: nothing was begun\n"),
     }
 }
 

@@ -91,8 +91,17 @@ slice-aggregate-write-line-9 c = search needs
 write-line-requires-9 : tie.Need-write-line-requires-9
 write-line-requires-9 c κs = search needs
 
+slice-aggregate-write-line-10 : tie.Need-slice-aggregate-write-line-10
+slice-aggregate-write-line-10 c = search needs
+
+write-line-requires-10 : tie.Need-write-line-requires-10
+write-line-requires-10 c κs = search needs
+
 enum-told-9 : tie.Need-enum-told-9
 enum-told-9 c = search needs
+
+enum-told-10 : tie.Need-enum-told-10
+enum-told-10 c = search needs
 
 same-length : tie.Need-same-length
 same-length c = search needs
@@ -174,6 +183,14 @@ returns-10 c =
     let e = c .before .before .before .before .before in
     line-as (c .before .before .write-line9 .ensures) (ap (refusalWords (e .before .before .before .args .t)) (sym (e .enum-told9 .given .1)))
 
+same-length-11 : tie.Need-same-length-11
+same-length-11 c = search needs
+
+returns-11 : tie.Need-returns-11
+returns-11 c =
+    let e = c .before .before .before .before .before in
+    line-as (c .before .before .write-line10 .ensures) (ap (refusalWords (e .before .before .before .args .t)) (sym (e .enum-told10 .given .1)))
+
 pub refused-spec : {M : Type 1} → statement M
 refused-spec =
     tie.close
@@ -207,6 +224,9 @@ refused-spec =
     enum-told-9
     slice-aggregate-write-line-9
     write-line-requires-9
+    enum-told-10
+    slice-aggregate-write-line-10
+    write-line-requires-10
     same-length
     returns
     same-length-2
@@ -226,4 +246,6 @@ refused-spec =
     same-length-9
     returns-9
     same-length-10
-    returns-10)
+    returns-10
+    same-length-11
+    returns-11)

@@ -1,4 +1,4 @@
--- `exports::blocks::tell` meets its contract, verdict by verdict.
+-- `exports::values::tell` meets its contract, verdict by verdict.
 -- Assumes nothing.
 use mathlib.Core.Path.{refl}
 use native.Mathlib.Omega.{arith}
@@ -6,8 +6,8 @@ use borrow.Author.Needs.{needs}
 use Rattle.field.proofs.Writing.{written-none, written-more}
 use Rattle.exports.proofs.Solving.{told-as}
 use Rattle.elimination.specs.declared.verdict.Verdict.the-variants.{Solved, Contradiction, Open}
-use Rattle.exports.proofs.blocks.tell.Statement.{statement}
-use Rattle.exports.proofs.blocks.tell.Tie as tie
+use Rattle.exports.proofs.values.tell.Statement.{statement}
+use Rattle.exports.proofs.values.tell.Tie as tie
 
 enum-told : tie.Need-enum-told
 enum-told c = search needs

@@ -1,0 +1,130 @@
+-- Document 02, E1, in the words of a caller: a night is begins, packets and questions, one after the other, each handed what the last one left.
+-- Assumes nothing.
+use mathlib.Core.Path.{_≡_}
+use mathlib.Core.List.{List, [], _∷_, _++_}
+use Prim.Native.Nat.{ℕ, _*_, _≤_}
+use lib.ListN.{length}
+use Rattle.field.specs.declared.refusal.Answer.{Answer}
+use Rattle.field.specs.declared.refusal.Answer.the-variants as Plains
+use Rattle.headers.specs.Row.{lOf}
+use Rattle.headers.specs.declared.row.Row.{Row}
+use Rattle.elimination.specs.Steps.{StoresRoom}
+use Rattle.elimination.specs.declared.verdict.Verdict.{Verdict}
+use Rattle.elimination.specs.declared.verdict.Verdict.the-variants.{Solved}
+use Rattle.solver.specs.System.{equations}
+use Rattle.solver.specs.declared.solver.Solution.{Solution}
+use Rattle.intake.specs.State.{Begun}
+use Rattle.intake.specs.Night.{Stretch, fresh, arrived, Holding, Begins, Takes, Asks}
+use Rattle.promises.specs.Calls.{Call, setIn}
+
+-- ---- the calls of a night
+
+-- what is lent to an intake
+pub record Memory : Type 0 where
+  pub state : List ℕ
+  pub pivots : List ℕ
+  pub rows : List ℕ
+  pub values : List ℕ
+
+-- a call with all that it was handed but the memory, and with its answer; of a question the out store before and after, too
+pub data Event : Type 0 where
+  begin : Row → List ℕ → (k t most : ℕ) → Answer → Event
+  packet : (esi : ℕ) → (symbol : List ℕ) → Answer → Event
+  question : (out out₁ : List ℕ) → Solution → Event
+
+-- its contract, from the memory before to the memory after; a begin is lent pivots and stores only to measure them
+abbrev pub Happens : Event → Memory → Memory → Type 0
+Happens (begin r v k t most x) m n =
+    Begins r v k t most (m .state) (m .pivots) (m .rows) (m .values) (n .state) x × (n .pivots ≡ m .pivots) × (n .rows ≡ m .rows) × (n .values ≡ m .values)
+Happens (packet e s x) m n = Takes e s (m .state) (m .pivots) (m .rows) (m .values) (n .state) (n .pivots) (n .rows) (n .values) x
+Happens (question o o₁ x) m n = Asks (m .state) (m .pivots) (m .rows) (m .values) o (n .state) (n .pivots) (n .rows) (n .values) o₁ x
+
+-- one call after the other
+abbrev pub Night : List Event → Memory → Memory → Type 0
+Night [] m n = n ≡ m
+Night (x ∷ xs) m n = (l : Memory) × Happens x m l × Night xs l n
+
+-- ---- the packets accepted since the last accepted begin
+
+-- no begin was accepted yet, or this came since the last one
+pub data Since : Type 0 where
+  nothing : Since
+  stretch : Stretch → Since
+
+-- with a packet that was accepted; where no begin was, none is (`packet-unbegun`)
+abbrev pub withPacket : Since → ℕ → List ℕ → Since
+withPacket nothing e s = nothing
+withPacket (stretch z) e s = stretch (arrived z e s)
+
+-- an accepted begin forgets all, an accepted packet comes behind the others, and nothing else counts
+abbrev pub after : Since → Event → Since
+after was (begin r v k t most Plains.Done) = stretch (fresh r v k t most)
+after was (begin r v k t most (Plains.Refused why)) = was
+after was (packet e s Plains.Done) = withPacket was e s
+after was (packet e s (Plains.Refused why)) = was
+after was (question o o₁ x) = was
+
+abbrev pub afterAll : Since → List Event → Since
+afterAll was [] = was
+afterAll was (x ∷ xs) = afterAll (after was x) xs
+
+-- so it is a function of the calls and their answers alone
+abbrev pub sinceBegin : List Event → Since
+sinceBegin xs = afterAll nothing xs
+
+-- ---- what the memory says of it
+
+-- nothing is begun in it, or the stretch is held
+abbrev pub Keeps : Since → Memory → Type 0
+Keeps nothing m = ¬ Begun (m .state) (m .pivots)
+Keeps (stretch z) m = Holding z (m .state) (m .pivots) (m .rows) (m .values)
+
+-- a question after a night that began with a memory in which nothing was begun: the out store o before and o₁ after, and the answer
+pub record Question (xs : List Event) (o o₁ : List ℕ) (answer : Solution) : Type 0 where
+  pub lent : Memory
+  pub left : Memory
+  pub last : Memory
+  pub unbegun : ¬ Begun (lent .state) (lent .pivots)
+  pub night : Night xs lent left
+  pub call : Happens (question o o₁ answer) left last
+
+-- ---- beside the solver
+
+-- a call of `solve` on the packets of a stretch
+abbrev pub CallOn : Stretch → (o o₁ : List ℕ) → Solution → Type 0
+CallOn z o o₁ x = Call (z .row) (z .tables) (z .k) (z .t) (z .esis) (z .symbols) o o₁ x
+
+-- and stores that are long enough for it: M·L, M·T and L·T octets
+pub record RoomFor (z : Stretch) (a d o : List ℕ) : Type 0 where
+  pub stores : StoresRoom (equations (z .row) (z .k) (length (z .esis))) (lOf (z .row)) (z .t) a d
+  pub out : lOf (z .row) * z .t ≤ length o
+
+-- two answers are one: the verdict with its shortfall, the set, and the whole out store if it was the same before
+pub record Alike (r : Row) (t : ℕ) (o o₁ p p₁ : List ℕ) (w u : Verdict) : Type 0 where
+  pub verdict : w ≡ u
+  pub set : w ≡ Solved → setIn r t o₁ ≡ setIn r t p₁
+  pub store : o ≡ p → o₁ ≡ p₁
+
+-- ---- further into a stretch
+
+-- none of these is an accepted begin
+abbrev pub NoBegin : List Event → Type 0
+NoBegin [] = Unit {0}
+NoBegin (begin r v k t most Plains.Done ∷ xs) = ⊥
+NoBegin (begin r v k t most (Plains.Refused why) ∷ xs) = NoBegin xs
+NoBegin (packet e s x ∷ xs) = NoBegin xs
+NoBegin (question o o₁ x ∷ xs) = NoBegin xs
+
+-- a stretch that began as z did, with these packets
+abbrev pub withPackets : Stretch → (es xs : List ℕ) → Stretch
+withPackets z es xs = record { row = z .row; tables = z .tables; k = z .k; t = z .t; most = z .most; esis = es; symbols = xs }
+
+-- of which those of z are the first ones
+abbrev pub extended : Stretch → (es xs : List ℕ) → Stretch
+extended z es xs = withPackets z (z .esis ++ es) (z .symbols ++ xs)
+
+-- what came by now is such a stretch
+pub record Continues (z : Stretch) (now : Since) : Type 0 where
+  pub esis : List ℕ
+  pub symbols : List ℕ
+  pub is : now ≡ stretch (extended z esis symbols)
