@@ -16,10 +16,14 @@ static const uint32_t published[1024] = {
 #include "../data/random_tables.txt"
 };
 
+/* The state of an intake of two packets that was begun. */
+static uint32_t begun[SPOONRIPPLE_INTAKE_STATE];
+
 /* All that is lent. */
 static struct {
     uint64_t out[8], words[64];
-    uint32_t tables[1024], list[64], esis[2], order[2], isis[32];
+    uint32_t tables[1024], list[64], esis[2], order[2], isis[32], state[SPOONRIPPLE_INTAKE_STATE];
+    uint16_t pivots[L];
     uint8_t bytes[16], more[16], symbols[2 * T], rows[(M + 2) * L], values[(M + 2) * T], set[L * T], rebuilt[10 * T];
     uint64_t place[2]; /* lent with length 0 */
 } lent, kept;
@@ -27,6 +31,7 @@ static struct {
 static void refill(void) {
     for (size_t i = 0; i < sizeof lent; i++) ((uint8_t *)&lent)[i] = (uint8_t)(i * 167 + 13);
     memcpy(lent.tables, published, sizeof published);
+    memcpy(lent.state, begun, sizeof begun);
     memset(lent.symbols, 0, sizeof lent.symbols);
     for (uint32_t i = 0; i < 2; i++) lent.esis[i] = 3 + i, lent.order[i] = 1 - i;
     for (uint32_t i = 0; i < 32; i++) lent.isis[i] = i;
@@ -236,9 +241,39 @@ static void blocks(void) {
     CASE(8, display(10, T, lent.esis, 2, lent.symbols, 2 * T, lent.rebuilt, 10 * T, 3, NONE));
 }
 
+#define STATE lent.state, SPOONRIPPLE_INTAKE_STATE
+#define PIVOTS lent.pivots, L
+#define ROWS lent.rows, (M + 2) * L
+#define VALUES lent.values, (M + 2) * T
+
+/* No slice of an intake is taken with length 0, since T is not 0 and L is above K: each is refused. */
+static void intakes(void) {
+    CASE(5, intake_begin(ROW, NONE, 10, T, 2, STATE, PIVOTS, ROWS, VALUES));
+    CASE(8, intake_begin(ROW, TABLES, 10, T, 2, NONE, PIVOTS, ROWS, VALUES));
+    CASE(8, intake_begin(ROW, TABLES, 10, T, 2, STATE, NONE, ROWS, VALUES));
+    CASE(8, intake_begin(ROW, TABLES, 10, T, 2, STATE, PIVOTS, NONE, VALUES));
+    CASE(8, intake_begin(ROW, TABLES, 10, T, 2, STATE, PIVOTS, ROWS, NONE));
+    CASE(8, intake_begin(ROW, TABLES, 10, T, 2, NONE, NONE, NONE, NONE));
+    CASE(10, intake_packet(3, NONE, STATE, PIVOTS, ROWS, VALUES));
+    CASE(14, intake_packet(3, lent.symbols, T, NONE, PIVOTS, ROWS, VALUES));
+    CASE(14, intake_packet(3, lent.symbols, T, STATE, NONE, ROWS, VALUES));
+    CASE(8, intake_packet(3, lent.symbols, T, STATE, PIVOTS, NONE, VALUES));
+    CASE(8, intake_packet(3, lent.symbols, T, STATE, PIVOTS, ROWS, NONE));
+    CASE(14, intake_packet(3, NONE, NONE, NONE, NONE, NONE));
+    CASE(14, intake_question(NONE, PIVOTS, ROWS, VALUES, SET, OUT));
+    CASE(14, intake_question(STATE, NONE, ROWS, VALUES, SET, OUT));
+    CASE(8, intake_question(STATE, PIVOTS, NONE, VALUES, SET, OUT));
+    CASE(8, intake_question(STATE, PIVOTS, ROWS, NONE, SET, OUT));
+    CASE(8, intake_question(STATE, PIVOTS, ROWS, VALUES, NONE, OUT));
+    CASE(8, intake_question(STATE, PIVOTS, ROWS, VALUES, SET, NONE));
+    CASE(14, intake_question(NONE, NONE, NONE, NONE, NONE, NONE));
+}
+
 int main(void) {
     if (spoonripple_row_check(FIVE, row, 9) != SPOONRIPPLE_DONE || row[5] != L) return fputs("the row has no such record\n", stderr), 2;
-    octets(), packets(), generators(), slabs(), matrices(), systems(), blocks();
+    if (spoonripple_intake_begin(ROW, published, 1024, 10, T, 2, begun, SPOONRIPPLE_INTAKE_STATE, PIVOTS, ROWS, VALUES) != SPOONRIPPLE_DONE)
+        return fputs("no intake is begun\n", stderr), 2;
+    octets(), packets(), generators(), slabs(), matrices(), systems(), blocks(), intakes();
     printf("null pointers of length 0: %u cases, %u faults\n", cases, faults);
     return faults != 0;
 }

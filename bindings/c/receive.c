@@ -1,7 +1,9 @@
 /* A receiver in C: transmission information and packets in, the object out.
  * usage: receive [N]     (only the first N packets come)
  * The delivery is bindings/data/delivery.txt, which the published crate's encoder sent: the 12 bytes of its header, and packets
- * of 4 + 4 bytes, of which three source packets were lost and four repair packets came. */
+ * of 4 + 4 bytes, of which three source packets were lost and four repair packets came.
+ * Here all packets have come before the block is solved. A station that takes each when it lands gives it to spoonripple_intake_packet in
+ * place of the two stores, after spoonripple_intake_begin, and asks spoonripple_intake_question in place of spoonripple_solve. */
 #include "../../include/spoonripple.h"
 #include "row_words.h"
 #include <stdio.h>

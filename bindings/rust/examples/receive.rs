@@ -23,7 +23,7 @@ pub struct Station {
     length: usize,
     packet_size: usize,
     blocks: Vec<Block<'static>>,
-    /// How many packets of each block it takes before asking is worth it: solving costs more than taking.
+    /// How many packets of each block it takes before asking is worth it: each packet after the first question costs more.
     wanted: Vec<u64>,
 }
 
@@ -59,7 +59,8 @@ impl Station {
         if block.take(id.encoding_symbol_id, symbol).is_err() || (block.arrivals().esis.len() as u64) < self.wanted[at] {
             return;
         }
-        // Of a block that is solved or a contradiction this costs nothing; of an open one no fewer packets than the shortfall can do.
+        // Of a block that is solved or a contradiction this costs nothing; of an open one no fewer packets than the shortfall can do. Each packet was worked in
+        // as it came, so that an answer is there soon after the last one that was needed.
         if let Verdict::Open { shortfall } = block.solve() {
             self.wanted[at] = block.arrivals().esis.len() as u64 + shortfall;
         }

@@ -1,12 +1,16 @@
 //! A source block as a receiver holds it: packets go in as they come, the block comes out once it is solved, and a solved block goes on listening.
-use crate::blocks::{Arrivals, Room, Shown, Stores, Verdict, display, encode, solve};
+use crate::blocks::{Arrivals, Shown, Verdict, display, encode};
+use crate::intake::Intake;
 use crate::parameters::{Row, Tables};
 use crate::refusal::Refusal;
 use crate::tuples::isi;
 use std::collections::BTreeSet;
 
-/// How many packets a block keeps: the solver refuses more (9).
+/// How many packets a block keeps: an intake takes no more (9).
 const MOST_KEPT: usize = 65535;
+
+/// How many packets beyond K its first intake is begun for: without damage two or three are almost always enough.
+const SPARE: usize = 16;
 
 /// One source block of K symbols of T octets, with all the memory that decoding it takes.
 ///
@@ -27,8 +31,10 @@ const MOST_KEPT: usize = 65535;
 /// them all. Only what came before with the same octets is not kept again, since it changes nothing (`repeat-changes-nothing`): a carousel that goes round
 /// does not fill a block. At most 65,535 packets are kept.
 ///
-/// The solver asks (L - K + n) · (L + T) octets of scratch for n packets, where L is a little above K; they are taken at the first
-/// [`solve`](Block::solve) and given back once the block is solved or a contradiction, since it is not solved anew after that.
+/// Until the block is solved or a contradiction each of them goes to an [`Intake`] as it comes, so that less is left to do at [`solve`](Block::solve). The
+/// intake owns about (L - K + m) · (L + T) octets, where L is a little above K and m is the number of packets that it was begun for: K + 16 with the first
+/// packet or question. Where more come before the block is solved, it is begun anew for twice as many as came, at most 65,535, and what is kept is given to
+/// it once more. It is given back once the block is solved or a contradiction, since nothing is solved after that.
 #[derive(Clone, Debug)]
 pub struct Block<'a> {
     row: Row,
@@ -39,8 +45,8 @@ pub struct Block<'a> {
     symbols: Vec<u8>,
     /// The places of `esis` by ESI.
     places: BTreeSet<(u32, usize)>,
-    rows: Vec<u8>,
-    values: Vec<u8>,
+    /// Until it is solved or a contradiction: with all that is kept.
+    intake: Option<Intake>,
     intermediates: Vec<u8>,
     source: Vec<u8>,
     verdict: Option<Verdict>,
@@ -54,14 +60,13 @@ impl<'a> Block<'a> {
             return Err(Refusal::BadSize);
         }
         let source = vec![0; count as usize * usize::from(t)];
-        let [symbols, rows, values, intermediates] = [const { Vec::new() }; 4];
-        let (esis, places) = (Vec::new(), BTreeSet::new());
-        Ok(Block { row, tables, count, t, esis, symbols, places, rows, values, intermediates, source, verdict: None })
+        let (esis, symbols, intermediates) = (Vec::new(), Vec::new(), Vec::new());
+        Ok(Block { row, tables, count, t, esis, symbols, places: BTreeSet::new(), intake: None, intermediates, source, verdict: None })
     }
 
-    /// Takes the symbol of an ESI. A solved block compares it (see [`Block`]), and [`verdict`](Block::verdict) tells what it is then; of any other the next
-    /// [`solve`](Block::solve) tells. Refused, with nothing changed: 9 where the ESI is 2^24 or more, or 65,535 other packets are kept and the block is not
-    /// solved; then 10 where the symbol is not t octets.
+    /// Takes the symbol of an ESI. A solved block compares it (see [`Block`]), and [`verdict`](Block::verdict) tells what it is then; any other works it in, which
+    /// takes up to about L · (L + T) steps, and the next [`solve`](Block::solve) tells. Refused, with nothing changed: 9 where the ESI is 2^24 or more, or 65,535
+    /// other packets are kept and the block is not solved; then 10 where the symbol is not t octets.
     ///
     /// A comparison needs no room: a solved block with 65,535 packets, more than which the solver would refuse, still takes any number. It does not keep
     /// them, not even the one that makes it a contradiction.
@@ -87,7 +92,24 @@ impl<'a> Block<'a> {
             self.esis.push(esi);
             self.symbols.extend(symbol);
         }
+        if self.verdict.is_none() {
+            self.filled();
+        }
         Ok(())
+    }
+
+    /// The intake with all that is kept: the last packet goes in, or where it was not begun for so many, all of them.
+    fn filled(&mut self) -> &mut Intake {
+        let (n, t) = (self.esis.len(), usize::from(self.t));
+        let intake = self.intake.take().filter(|intake| intake.most() as usize >= n).unwrap_or_else(|| {
+            let most = (2 * n).max(self.count as usize + SPARE).min(MOST_KEPT);
+            Intake::begin(self.row, self.tables, self.count, self.t, most as u32).expect("what could be refused was, when the block was made")
+        });
+        let intake = self.intake.insert(intake);
+        for at in intake.accepted() as usize..n {
+            intake.packet(self.esis[at], &self.symbols[at * t..][..t]).expect("what could be refused was, when the block took it");
+        }
+        intake
     }
 
     /// Whether this symbol came for this ESI before, and was kept.
@@ -114,28 +136,23 @@ impl<'a> Block<'a> {
         self.verdict
     }
 
-    /// Decides over all that came. What [`verdict`](Block::verdict) knows it gives at once; else it starts anew and costs up to about L · n · (L + T) steps, so
-    /// that it is not worth a call before K packets came, nor after [`Verdict::Open`] before as many more as its shortfall did.
+    /// Decides over all that came. What [`verdict`](Block::verdict) knows it gives at once. Else the packets are worked in already, and the first call works the
+    /// LDPC, HDPC and padding rows in too, after which each packet costs more; so it is not worth a call before K packets came, nor after [`Verdict::Open`]
+    /// before as many more as its shortfall did.
     pub fn solve(&mut self) -> Verdict {
         if let Some(known) = self.verdict {
             return known;
         }
-        let room = Room::of(self.row, self.arrivals());
-        let stores = [(&mut self.rows, room.rows), (&mut self.values, room.values), (&mut self.intermediates, room.out)];
-        let [rows, values, out] = stores.map(|(store, need)| {
-            store.resize(need.max(store.len()), 0);
-            &mut store[..]
-        });
-        let arrivals = Arrivals { count: self.count, t: self.t, esis: &self.esis, symbols: &self.symbols };
-        let verdict = solve(self.row, self.tables, arrivals, Stores { rows, values, out }).expect("what could be refused was, when the block took it");
-        self.verdict = Some(verdict);
-        if verdict == Verdict::Solved {
+        let intake = self.filled();
+        let verdict = intake.question();
+        if let Some(set) = intake.intermediates().map(<[u8]>::to_vec) {
+            self.intermediates = set;
             self.rebuild();
         }
         if !matches!(verdict, Verdict::Open { .. }) {
-            (self.rows, self.values) = (Vec::new(), Vec::new());
+            self.intake = None;
         }
-        verdict
+        *self.verdict.insert(verdict)
     }
 
     /// The source symbols are the encodings of ESI 0 to K - 1; of one that arrived that is proved to be what arrived.

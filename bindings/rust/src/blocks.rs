@@ -1,6 +1,6 @@
-//! The calls over a block with lent stores: solving, the encoding of one symbol, and where a source symbol is displayed from.
+//! The calls over a block with lent stores: solving all that arrived at once, the encoding of one symbol, and where a source symbol is displayed from.
 //!
-//! [`Block`](crate::Block) makes these calls and owns the stores; they stand here for callers with memory of their own.
+//! [`Block`](crate::Block) takes packets one by one ([`intake`](crate::intake)); these stand here for callers with memory of their own.
 use crate::parameters::{Row, Tables};
 use crate::refusal::{Refusal, done, values};
 use crate::sys;
@@ -19,6 +19,17 @@ pub enum Verdict {
         /// How many independent rows are missing: at least so many more packets are needed.
         shortfall: u64,
     },
+}
+
+impl Verdict {
+    /// What the result of a call that solves stands for, with its shortfall.
+    pub(crate) fn of(code: u32, shortfall: u64) -> Result<Verdict, Refusal> {
+        match code {
+            100 => Ok(Verdict::Contradiction),
+            101 => Ok(Verdict::Open { shortfall }),
+            _ => done(code).map(|()| Verdict::Solved),
+        }
+    }
 }
 
 /// In the words of the receiving program, with `solved` where it writes the block.
@@ -90,11 +101,7 @@ pub fn solve(row: Row, tables: Tables, arrivals: Arrivals, stores: Stores) -> Re
             rows.as_mut_ptr(), rows.len(), values.as_mut_ptr(), values.len(), out.as_mut_ptr(), out.len(), shortfall.as_mut_ptr(), shortfall.len(),
         )
     };
-    match code {
-        100 => Ok(Verdict::Contradiction),
-        101 => Ok(Verdict::Open { shortfall: shortfall[0] }),
-        _ => done(code).map(|()| Verdict::Solved),
-    }
+    Verdict::of(code, shortfall[0])
 }
 
 /// The symbol of an ESI of a block of `count` source symbols of t octets, from its L · t octets of intermediate symbols: t octets at the front of `out`, of

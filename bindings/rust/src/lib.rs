@@ -31,8 +31,9 @@
 //!
 //! # Modules
 //!
-//! [`Block`] is what a receiver needs, with [`headers`] before it and [`parameters`] beside it. The other modules wrap every further call of the archive:
-//! [`octets`], [`tuples`], [`slab`], [`matrix`], [`constraints`], and [`blocks`], which is what [`Block`] calls.
+//! [`Block`] is what a receiver needs, with [`headers`] before it and [`parameters`] beside it; it rests on an [`Intake`], which is for those who keep no
+//! packets. The other modules wrap every further call of the archive: [`octets`], [`tuples`], [`slab`], [`matrix`], [`constraints`], [`blocks`], and
+//! [`intake`] with the calls over lent memory.
 #![deny(missing_docs, unsafe_op_in_unsafe_fn)]
 
 #[cfg(not(all(target_arch = "x86_64", target_os = "linux")))]
@@ -43,6 +44,7 @@ mod block;
 pub mod blocks;
 pub mod constraints;
 pub mod headers;
+pub mod intake;
 pub mod matrix;
 pub mod octets;
 pub mod parameters;
@@ -58,5 +60,6 @@ pub mod tuples;
 pub use bad_row::{BadRow, Part};
 pub use block::Block;
 pub use blocks::Verdict;
+pub use intake::Intake;
 pub use parameters::{Row, Tables};
 pub use refusal::Refusal;

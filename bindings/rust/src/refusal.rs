@@ -4,8 +4,9 @@ use std::fmt;
 
 /// Why a call was refused. A call that refuses has changed no byte that it was lent.
 ///
-/// The numbers and what they mean are those of the table 'Refusal numbers' in `docs/01-scope.md`. Where several apply, the one that comes first in
-/// 4, 5, 2, 9, 10, 8, 6, 7, 3, 1 is given. More numbers can come with more calls, so a `match` has an arm for the rest.
+/// The numbers and what they mean are those of the table 'Refusal numbers' in `docs/01-scope.md`, and 14 that of `docs/02-change-requests.md`, E1. Where
+/// several apply, the one that comes first in 14, 4, 5, 2, 9, 10, 8, 6, 7, 3, 1 is given. More numbers can come with more calls, so a `match` has an arm for
+/// the rest.
 ///
 /// Refusal 4 has a part besides: which rule of the row breaks first.
 #[derive(Clone, Copy, Debug, PartialEq, Eq, Hash)]
@@ -27,14 +28,18 @@ pub enum Refusal {
     SamePlace,
     /// 8: a lent part is too short, or not of its exact length where one is named.
     WrongLength,
-    /// 9: an ESI of 2^24 or more, a source count K not in 1..K', more than 65,535 ids or arrivals, or too few ids for a builder.
+    /// 9: an ESI of 2^24 or more, a source count K not in 1..K', more than 65,535 ids, arrivals or packets named, too few ids for a builder, or a packet past
+    /// the number that its intake named.
     BadCount,
     /// 10: symbol size 0, or symbols that are not T octets each.
     BadSize,
+    /// 14: a packet or question before the first accepted begin, or with a state that no accepted begin and no call after it left. An
+    /// [`Intake`](crate::Intake) is begun when it is made, so that only the calls beneath it ([`intake`](crate::intake)) come to this.
+    NotBegun,
 }
 
 impl Refusal {
-    /// The number in `docs/01-scope.md`.
+    /// The number in `docs/01-scope.md`, or in `docs/02-change-requests.md`.
     pub fn number(self) -> u32 {
         match self {
             Refusal::DivisorZero => 1,
@@ -47,6 +52,7 @@ impl Refusal {
             Refusal::WrongLength => 8,
             Refusal::BadCount => 9,
             Refusal::BadSize => 10,
+            Refusal::NotBegun => 14,
         }
     }
 
@@ -77,6 +83,7 @@ impl Refusal {
             (8, 0) => Refusal::WrongLength,
             (9, 0) => Refusal::BadCount,
             (10, 0) => Refusal::BadSize,
+            (14, 0) => Refusal::NotBegun,
             _ => return None,
         })
     }
@@ -92,8 +99,9 @@ impl Refusal {
             Refusal::Outside => "a row, column, range or symbol lies outside, or a resize would grow",
             Refusal::SamePlace => "destination and source are one row, or one physical symbol",
             Refusal::WrongLength => "a lent part is too short, or not of its exact length",
-            Refusal::BadCount => "an ESI is too large, the source count is not in 1..K', or there are too many or too few ids or arrivals",
+            Refusal::BadCount => "an ESI is too large, the source count is not in 1..K', or there are too many or too few ids, arrivals or packets",
             Refusal::BadSize => "the symbol size is 0, or a symbol is not of that size",
+            Refusal::NotBegun => "nothing was begun",
         }
     }
 }

@@ -20,10 +20,13 @@ fn row() -> Row {
 }
 
 #[test]
-fn refusals_are_those_of_document_01() {
+fn refusals_are_those_of_documents_01_and_02() {
     let (_, table) = include_str!("../../../docs/01-scope.md").split_once("| No. |").unwrap();
     let rows = table.lines().skip(2).take_while(|line| line.starts_with('|'));
-    let numbers: Vec<u32> = rows.map(|row| row.split('|').nth(1).unwrap().trim().parse().unwrap()).collect();
+    let mut numbers: Vec<u32> = rows.map(|row| row.split('|').nth(1).unwrap().trim().parse().unwrap()).collect();
+    // Of document 02 those whose request is built.
+    assert!(include_str!("../../../docs/02-change-requests.md").contains("before the first accepted begin gives 14, before all others"));
+    numbers.push(14);
     // Each number is a code, but 4, which has its ten parts above it.
     let plain = numbers.iter().copied().filter(|n| *n != 4);
     let codes: BTreeSet<u32> = plain.chain((1..=10).map(|part| 4 + 256 * part)).collect();
@@ -37,6 +40,7 @@ fn refusals_are_those_of_document_01() {
         assert!(!refusal.meaning().is_empty());
     }
     assert_eq!(Refusal::BadSize.to_string(), "refused 10: the symbol size is 0, or a symbol is not of that size");
+    assert_eq!(Refusal::NotBegun.to_string(), "refused 14: nothing was begun");
 }
 
 #[test]
@@ -54,7 +58,7 @@ fn parts_are_those_of_document_02() {
 fn refusals_are_not_exhaustive() {
     use Refusal::*;
     let number = |refusal| match refusal {
-        DivisorZero | OutOfRange | BadTransmission | BadRow(_) | BadTables | Outside | SamePlace | WrongLength | BadCount | BadSize => 1,
+        DivisorZero | OutOfRange | BadTransmission | BadRow(_) | BadTables | Outside | SamePlace | WrongLength | BadCount | BadSize | NotBegun => 1,
         _ => 0,
     };
     assert_eq!(number(BadSize), 1);

@@ -130,6 +130,26 @@ fn what_it_says_is_what_a_fresh_call_says() {
     all_ways(&seen, 100);
 }
 
+/// Its first intake is begun for 21 packets, the next ones for 44, 90 and 182: whenever it is asked, nothing that came before is lost.
+#[test]
+fn more_packets_than_it_needs_before_it_is_asked() {
+    let mut random = Random::new(16);
+    let sender = Sender::new(&mut random, 5, 3);
+    for damaged in [None, Some(7), Some(30)] {
+        let (mut block, mut came) = (receiver(5, 3), Vec::new());
+        for esi in 0..100 {
+            let (_, symbol) = sender.packet(esi);
+            let packet = (esi, if damaged == Some(esi) { random.damaged(&symbol) } else { symbol });
+            block.take(esi, &packet.1).unwrap();
+            came.push(packet);
+            let (mut asked, due) = (block.clone(), fresh(5, 3, &came));
+            assert_eq!((asked.solve(), asked.source()), (due.verdict, due.source.as_deref()));
+            assert_eq!((block.verdict(), asked.verdict()), (None, Some(due.verdict)));
+        }
+        assert_eq!(block.solve(), if damaged.is_some() { Verdict::Contradiction } else { Verdict::Solved });
+    }
+}
+
 #[test]
 fn a_block_refuses_and_changes_nothing() {
     let (row, tables) = (Row::published(10).unwrap(), Tables::published());

@@ -8,8 +8,8 @@ use spoonripple::sys::*;
 use spoonripple::{BadRow, Part, Refusal, Row};
 use std::ptr::{null, null_mut};
 
-/// What the eight calls answer to a record with nothing lent: no tables, no list, no place for a value. A slice of length 0 may be null.
-fn answers([k, j, s, h, w, l, p, b, p1]: [u32; 9]) -> [u32; 8] {
+/// What the nine calls answer to a record with nothing lent: no tables, no list, no place for a value. A slice of length 0 may be null.
+fn answers([k, j, s, h, w, l, p, b, p1]: [u32; 9]) -> [u32; 9] {
     macro_rules! ask {
         ($call:ident, $($rest:expr),*) => {
             unsafe { $call(k, j, s, h, w, l, p, b, p1, $($rest),*) }
@@ -24,14 +24,15 @@ fn answers([k, j, s, h, w, l, p, b, p1]: [u32; 9]) -> [u32; 8] {
         ask!(spoonripple_constraint_matrix_no_hdpc, null(), 0, null(), 0, null_mut(), 0),
         ask!(spoonripple_encode, null(), 0, 1, 1, 0, null(), 0, null_mut(), 0),
         ask!(spoonripple_solve, null(), 0, 1, 1, null(), 0, null(), 0, null_mut(), 0, null_mut(), 0, null_mut(), 0, null_mut(), 0),
+        ask!(spoonripple_intake_begin, null(), 0, 1, 1, 1, null_mut(), 0, null(), 0, null(), 0, null(), 0),
     ]
 }
 
 /// What they answer to one that is not refused.
-const NOTHING_LENT: [u32; 8] = [8, 5, 8, 5, 5, 5, 5, 5];
+const NOTHING_LENT: [u32; 9] = [8, 5, 8, 5, 5, 5, 5, 5, 5];
 
 /// 4 with its part 10.
-const DERIVED: [u32; 8] = [2564; 8];
+const DERIVED: [u32; 9] = [2564; 9];
 
 #[test]
 fn a_record_that_the_check_does_not_make_is_refused() {
@@ -61,7 +62,7 @@ fn the_derived_numbers_of_another_row_are_refused() {
     }
 }
 
-/// The check, the eight calls and the binding's two ways to a `Row` agree with the rules in plain Rust, whatever breaks.
+/// The check, the nine calls and the binding's two ways to a `Row` agree with the rules in plain Rust, whatever breaks.
 fn tried(numbers: [u32; 9]) -> u32 {
     let [k, j, s, h, w, l, p, b, p1] = numbers;
     let (of_five, of_all) = (part_due([k, j, s, h, w], None), part_due([k, j, s, h, w], Some([l, p, b, p1])));
@@ -71,7 +72,7 @@ fn tried(numbers: [u32; 9]) -> u32 {
         0 => assert_eq!(made.map(|row| part_due([k, j, s, h, w], Some(row.numbers()[5..].try_into().unwrap()))), Ok(0), "{numbers:?}"),
         part => assert_eq!(made, Err(refused(part, [k, j, s, h, w, 0, 0, 0, 0]))),
     }
-    assert_eq!(answers(numbers), if of_all == 0 { NOTHING_LENT } else { [4 + 256 * of_all; 8] }, "{numbers:?}");
+    assert_eq!(answers(numbers), if of_all == 0 { NOTHING_LENT } else { [4 + 256 * of_all; 9] }, "{numbers:?}");
     assert_eq!(Row::from_numbers(numbers), if of_all == 0 { made } else { Err(refused(of_all, numbers)) });
     of_all
 }

@@ -1,7 +1,8 @@
 //! The signatures stand three times: in the Rattle source, in include/spoonripple.h and in src/sys.rs. They are the same, names and types. So do the numbers
 //! of the refusals and their parts, which are those of src/refusal.rs and src/bad_row.rs.
 #![forbid(unsafe_code)]
-use spoonripple::{Part, Refusal};
+use spoonripple::intake::Room;
+use spoonripple::{Part, Refusal, Row};
 use std::collections::BTreeSet;
 use std::fs;
 use std::path::Path;
@@ -57,7 +58,7 @@ fn header_and_declarations_are_those_of_the_source() {
     let read = |path: &str| fs::read_to_string(root.join(path)).unwrap();
     let files = fs::read_dir(root.join("crates/exports/src")).unwrap().map(|entry| fs::read_to_string(entry.unwrap().path()).unwrap());
     let source = signatures(&files.collect::<String>(), "pub extern \"C\" fn ", of_rattle);
-    assert!(source.len() >= 44, "the source has {} calls", source.len());
+    assert!(source.len() >= 47, "the source has {} calls", source.len());
     assert_eq!(signatures(&read("include/spoonripple.h"), "\nuint32_t ", of_c), source);
     assert_eq!(signatures(&read("bindings/rust/src/sys.rs"), "    pub fn ", |p| vec![p.to_string()]), source);
 }
@@ -95,7 +96,15 @@ fn numbers_and_parts_have_one_name() {
     let numbers = named(&|n| Refusal::of(if n == 4 { 260 } else { n }, [0; 9]).map(variant));
     assert_eq!(arms(&source, "number", "Refusal::"), numbers);
     let besides = [(0, "Done"), (100, "Contradiction"), (101, "Open")].map(|(n, name)| (n, name.to_string()));
-    let refusals = defines(&header, "").into_iter().filter(|(_, name)| !name.starts_with("Part"));
+    let refusals = defines(&header, "").into_iter().filter(|(_, name)| !name.starts_with("Part") && !name.starts_with("Intake"));
     let (answers, refusals): (Numbered, Numbered) = refusals.partition(|answer| besides.contains(answer));
     assert_eq!((answers, refusals), (besides.to_vec(), numbers));
+}
+
+/// How much an intake is lent: the header's macros are tried by bindings/c/intake.c.
+#[test]
+fn the_words_of_a_state_are_as_many() {
+    let header = fs::read_to_string(Path::new(env!("CARGO_MANIFEST_DIR")).join("../../include/spoonripple.h")).unwrap();
+    let words = Room::of(Row::published(10).unwrap(), 10, 4, 12).state;
+    assert_eq!(defines(&header, "INTAKE_"), [(words as u32, "State".to_string())]);
 }

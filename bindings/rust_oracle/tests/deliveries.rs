@@ -5,7 +5,7 @@ mod common;
 use common::{encoded, fresh, receiver};
 use raptorq::EncodingPacket;
 use rust_oracle::{Sender, parts};
-use spoonripple::{Block, Refusal, Verdict};
+use spoonripple::{Block, Intake, Refusal, Row, Tables, Verdict};
 
 fn take_all(block: &mut Block, packets: &[EncodingPacket]) {
     common::take_all(block, &packets.iter().map(parts).collect::<Vec<_>>());
@@ -69,6 +69,24 @@ fn a_damaged_packet_is_a_contradiction() {
     block.take(esi, &damaged).unwrap();
     // What was solved before does not stand any longer.
     assert_eq!((block.verdict(), block.source()), (Some(Verdict::Contradiction), None));
+}
+
+/// Packet by packet: the block is the crate's as soon as the packets make one, and whatever comes after leaves it so.
+#[test]
+fn blocks_are_solved_as_packets_land() {
+    for (k, t) in [(1, 3), (10, 16), (26, 64), (101, 40)] {
+        let sender = Sender::new(k, t);
+        let packets = sender.packets(|esi| esi % 3 == 0, k.div_ceil(3) + 9);
+        let mut intake = Intake::begin(Row::published(k).unwrap(), Tables::published(), k, t, packets.len() as u32).unwrap();
+        for (n, (esi, symbol)) in (1..).zip(packets.iter().map(parts)) {
+            intake.packet(esi, &symbol).unwrap();
+            match intake.question() {
+                Verdict::Solved => assert_eq!((n >= k, intake.source()), (true, Some(sender.data.clone()))),
+                said => assert!(n < k + 4 && matches!(said, Verdict::Open { shortfall } if shortfall >= k.saturating_sub(n).into()), "{k} {n} {said}"),
+            }
+        }
+        assert_eq!(intake.question(), Verdict::Solved);
+    }
 }
 
 /// The set, and what is encoded from it: the intermediate symbols of the crate's encoder, and the packets that it sends.
