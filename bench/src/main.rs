@@ -1,6 +1,7 @@
-//! One line a piece of work: our time over that of plain Rust or of the published crate, taken in this process in turns.
+//! One line a piece of work: our time over that of plain Rust or of the published crate, the intake's over our solver's, taken in this process in turns.
 mod builders;
 mod field;
+mod intake;
 mod plain;
 mod solver;
 mod stores;
@@ -31,9 +32,15 @@ pub fn line(work: &str, against: &str, ratio: f64, bar: Option<f64>) {
     println!("{work:<34} {ratio:>6.2} times {against}{bar}");
 }
 
+/// The time of a piece of work as a part of another's; the pieces may be small.
+pub fn part(work: &str, of: &str, part: f64) {
+    println!("{work:<34} {part:>8.4} of {of}");
+}
+
 /// All areas, or the one that is named.
 fn main() {
-    let areas: [(&str, fn()); 4] = [("field", field::run), ("stores", stores::run), ("builders", builders::run), ("solver", solver::run)];
+    let areas: [(&str, fn()); 5] =
+        [("field", field::run), ("stores", stores::run), ("builders", builders::run), ("solver", solver::run), ("intake", intake::run)];
     let named = std::env::args().nth(1);
     let chosen: Vec<_> = areas.iter().filter(|(name, _)| named.as_deref().is_none_or(|n| n == *name)).collect();
     if chosen.is_empty() {

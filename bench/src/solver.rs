@@ -11,62 +11,68 @@ use std::hint::black_box;
 const T: u16 = 1024;
 
 /// A block with its packets, and room for a call.
-struct Block {
+pub struct Block {
     row: Row,
-    record: Record,
-    k: u32,
+    pub record: Record,
+    pub k: u32,
+    pub t: u16,
     data: Vec<u8>,
     packets: Vec<EncodingPacket>,
-    esis: Vec<u32>,
-    symbols: Vec<u8>,
-    lent: Stores,
+    pub esis: Vec<u32>,
+    pub symbols: Vec<u8>,
+    pub lent: Stores,
 }
 
 impl Block {
-    fn new(random: &mut Random, k: u32) -> Block {
-        let data = random.bytes(k as usize * usize::from(T));
+    pub fn new(random: &mut Random, k: u32, t: u16) -> Block {
+        Block::of(random, k, t, |encoder| encoder.repair_packets(0, k + 2))
+    }
+
+    /// A block of which these packets came.
+    pub fn of(random: &mut Random, k: u32, t: u16, packets: impl FnOnce(&SourceBlockEncoder) -> Vec<EncodingPacket>) -> Block {
+        let data = random.bytes(k as usize * usize::from(t));
         let row = *rows::published().iter().find(|r| r[0] >= k).expect("a row of Table 2");
-        let packets = SourceBlockEncoder::new(0, &config(k), &data).repair_packets(0, k + 2);
+        let packets = packets(&SourceBlockEncoder::new(0, &config(k, t), &data));
         let esis: Vec<u32> = packets.iter().map(|p| p.payload_id().encoding_symbol_id()).collect();
         let symbols = packets.iter().flat_map(|p| p.data().to_vec()).collect();
-        let mut block = Block { row, record: rows::record(row), k, data, packets, esis, symbols, lent: Stores::default() };
+        let mut block = Block { row, record: rows::record(row), k, t, data, packets, esis, symbols, lent: Stores::default() };
         let [l, m, t] = block.measures();
         block.lent = Stores { rows: vec![0; m * l], values: vec![0; m * t], out: vec![0; l * t], shortfall: vec![0] };
         block
     }
 
-    fn came(&self) -> Arrived<'_> {
-        Arrived { count: self.k, t: T, esis: &self.esis, symbols: &self.symbols }
+    pub fn came(&self) -> Arrived<'_> {
+        Arrived { count: self.k, t: self.t, esis: &self.esis, symbols: &self.symbols }
     }
 
     /// Two packets too few: the first K - 2.
     fn short(&self) -> Arrived<'_> {
         let n = self.k as usize - 2;
-        Arrived { esis: &self.esis[..n], symbols: &self.symbols[..n * usize::from(T)], ..self.came() }
+        Arrived { esis: &self.esis[..n], symbols: &self.symbols[..n * usize::from(self.t)], ..self.came() }
     }
 
     /// The crate's time; its packets are made before.
     fn decoded(&self) -> f64 {
         let mut packets = self.packets.clone();
         timed(1, &mut || {
-            let mut decoder = SourceBlockDecoder::new(0, &config(self.k), self.data.len() as u64);
+            let mut decoder = SourceBlockDecoder::new(0, &config(self.k, self.t), self.data.len() as u64);
             assert!(black_box(decoder.decode(std::mem::take(&mut packets))).is_some());
         })
     }
 
     fn rebuilt(&self, tables: &[u32], set: &[u8]) -> Vec<u8> {
-        archive::rebuilt(self.record, tables, self.k, T, set).expect("nothing is refused")
+        archive::rebuilt(self.record, tables, self.k, self.t, set).expect("nothing is refused")
     }
 
     /// L, M and T.
-    fn measures(&self) -> [usize; 3] {
+    pub fn measures(&self) -> [usize; 3] {
         let [l, m] = rows::measures(self.row, self.k, self.esis.len());
-        [l, m, T.into()]
+        [l, m, self.t.into()]
     }
 }
 
-fn config(k: u32) -> ObjectTransmissionInformation {
-    ObjectTransmissionInformation::new(u64::from(k) * u64::from(T), T, 1, 1, 8)
+fn config(k: u32, t: u16) -> ObjectTransmissionInformation {
+    ObjectTransmissionInformation::new(u64::from(k) * u64::from(t), t, 1, 1, 8)
 }
 
 /// All three give the same symbols, and with two packets too few both of ours are open, else no time means anything. Returns what the plain elimination
@@ -79,13 +85,13 @@ fn agree(block: &Block, tables: &[u32]) -> [u64; 3] {
     let code = archive::solve(block.record, tables, block.came(), &mut ours);
     let (plain, operations) = plain::solve(block.row, tables, block.came(), &mut theirs);
     assert!(code == 0 && plain == 0 && ours == theirs, "both solve, and leave the same");
-    let decoded = SourceBlockDecoder::new(0, &config(block.k), block.data.len() as u64).decode(block.packets.clone());
+    let decoded = SourceBlockDecoder::new(0, &config(block.k, block.t), block.data.len() as u64).decode(block.packets.clone());
     assert!(decoded.as_ref() == Some(&block.data), "the crate decodes the block");
     assert!(block.rebuilt(tables, &ours.out) == block.data, "the source symbols are encodings of ours");
     operations
 }
 
-fn median(mut numbers: Vec<f64>) -> f64 {
+pub fn median(mut numbers: Vec<f64>) -> f64 {
     numbers.sort_by(f64::total_cmp);
     numbers[numbers.len() / 2]
 }
@@ -133,7 +139,7 @@ pub fn run() {
     let mut random = Random::new(3);
     let mut growth = vec![];
     for k in [10, 50, 100, 250, 500, 1000] {
-        let block = Block::new(&mut random, k);
+        let block = Block::new(&mut random, k, T);
         let operations = agree(&block, &tables);
         let [plain, decoder, rebuilt, open] = ratios(&block, &tables);
         let work = format!("solve, K = {k}, T = {T}");

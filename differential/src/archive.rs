@@ -254,6 +254,51 @@ pub fn solve([k, j, s, h, w, l, p, b, p1]: Record, tables: &[u32], came: Arrived
     }
 }
 
+/// What is the intake's between calls and lent to each of them: its state, its pivots and its two stores.
+pub struct Held<'a> {
+    pub state: &'a mut [u32],
+    pub pivots: &'a mut [u16],
+    pub rows: &'a mut [u8],
+    pub values: &'a mut [u8],
+}
+
+/// The words of a state.
+pub const INTAKE_STATE: usize = 1039;
+
+#[inline]
+pub fn intake_begin([k, j, s, h, w, l, p, b, p1]: Record, tables: &[u32], count: u32, t: u16, most: u32, held: &mut Held) -> Answer<()> {
+    let Held { state, pivots, rows, values } = held;
+    done(unsafe {
+        spoonripple_intake_begin(
+            k, j, s, h, w, l, p, b, p1, tables.as_ptr(), tables.len(), count, t, most,
+            state.as_mut_ptr(), state.len(), pivots.as_ptr(), pivots.len(), rows.as_ptr(), rows.len(), values.as_ptr(), values.len(),
+        )
+    })
+}
+
+#[inline]
+pub fn intake_packet(esi: u32, symbol: &[u8], held: &mut Held) -> Answer<()> {
+    let Held { state, pivots, rows, values } = held;
+    done(unsafe {
+        spoonripple_intake_packet(
+            esi, symbol.as_ptr(), symbol.len(),
+            state.as_mut_ptr(), state.len(), pivots.as_mut_ptr(), pivots.len(), rows.as_mut_ptr(), rows.len(), values.as_mut_ptr(), values.len(),
+        )
+    })
+}
+
+/// 0 solved, 100 contradiction, 101 open, else the code of the refusal, as `solve`.
+#[inline]
+pub fn intake_question(held: &mut Held, out: &mut [u8], shortfall: &mut [u64]) -> u32 {
+    let Held { state, pivots, rows, values } = held;
+    unsafe {
+        spoonripple_intake_question(
+            state.as_mut_ptr(), state.len(), pivots.as_mut_ptr(), pivots.len(), rows.as_mut_ptr(), rows.len(), values.as_mut_ptr(), values.len(),
+            out.as_mut_ptr(), out.len(), shortfall.as_mut_ptr(), shortfall.len(),
+        )
+    }
+}
+
 /// The source symbols of a block, encoded from its intermediate symbols.
 pub fn rebuilt(record: Record, tables: &[u32], count: u32, t: u16, set: &[u8]) -> Answer<Vec<u8>> {
     let mut block = vec![0; count as usize * usize::from(t)];

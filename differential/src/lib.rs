@@ -49,8 +49,8 @@ impl Random {
     }
 }
 
-/// Document 01's order where several refusals apply.
-const ORDER: [u32; 10] = [4, 5, 2, 9, 10, 8, 6, 7, 3, 1];
+/// Document 01's order where several refusals apply; document 02 puts 14 before all others.
+const ORDER: [u32; 11] = [14, 4, 5, 2, 9, 10, 8, 6, 7, 3, 1];
 
 /// What a call gives for a refusal: its number, and above that byte its part, which only 4 has.
 pub fn code(number: u32, part: u32) -> u32 {

@@ -3,6 +3,7 @@ mod constraints;
 mod encoding;
 mod field;
 mod headers;
+mod intake;
 mod matrix;
 mod receive;
 mod records;
@@ -22,7 +23,7 @@ fn main() {
         eprintln!("usage: run AREA [COUNT] [SEED]");
         std::process::exit(2);
     };
-    let areas: [(&str, fn(u64, u64) -> Found); 8] = [
+    let areas: [(&str, fn(u64, u64) -> Found); 9] = [
         ("field", field::run),
         ("headers", headers::run),
         ("matrix", matrix::run),
@@ -30,6 +31,7 @@ fn main() {
         ("constraints", constraints::run),
         ("encoding", encoding::run),
         ("solver", solver::run),
+        ("intake", intake::run),
         ("receive", receive::run),
     ];
     let chosen: Vec<_> = areas.iter().filter(|(name, _)| area == name || area == "all").collect();

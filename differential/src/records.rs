@@ -1,7 +1,7 @@
 //! Records that break a rule, in the row's own numbers or in L, P, B or P1: every call that takes a record refuses such a one by 4 and the part of the first
 //! rule that breaks, before all else that it refuses, and leaves every element that it was lent.
 use crate::solver::stores;
-use differential::archive::{self, Answer, Arrived, Record, Stores};
+use differential::archive::{self, Answer, Arrived, Held, INTAKE_STATE, Record, Stores};
 use differential::near::{self, wrong};
 use differential::report::Report;
 use differential::{Random, refusal, rows};
@@ -13,6 +13,8 @@ struct Given {
     tuple: [u32; 6],
     count: u32,
     t: u16,
+    /// The most packets that a begin names.
+    most: u32,
     esi: u32,
     /// The ISIs of a builder, the ESIs of arrivals.
     ids: Vec<u32>,
@@ -21,6 +23,7 @@ struct Given {
     words: Vec<u64>,
     octets: Vec<u8>,
     list: Vec<u32>,
+    pivots: Vec<u16>,
     stores: Stores,
 }
 
@@ -35,6 +38,7 @@ impl Given {
             tables,
             count: 1 + random.below(k.into()) as u32,
             t,
+            most: random.below(100) as u32,
             esi: random.below(1 << 24) as u32,
             ids: (0..n).map(|_| random.below(1 << 24) as u32).collect(),
             symbols: random.bytes(n as usize * usize::from(t)),
@@ -78,6 +82,18 @@ fn solve(g: &mut Given, record: Record) -> Answer<()> {
     }
 }
 
+fn begin(g: &mut Given, record: Record) -> Answer<()> {
+    let Stores { rows, values, .. } = &mut g.stores;
+    archive::intake_begin(record, &g.tables, g.count, g.t, g.most, &mut Held { state: &mut g.list, pivots: &mut g.pivots, rows, values })
+}
+
+/// A state in the list, pivots and two stores.
+fn lend_intake(g: &mut Given, random: &mut Random, [k, j, s, h, w, l, ..]: Record) {
+    g.list = list(random, INTAKE_STATE as u32);
+    g.pivots = list(random, l).into_iter().map(|n| n as u16).collect();
+    g.stores = stores(random, [k, j, s, h, w], g.count, g.t, g.most as usize);
+}
+
 fn other_tables(g: &mut Given) {
     g.tables.pop();
 }
@@ -88,6 +104,10 @@ fn no_count(g: &mut Given) {
 
 fn large_count(g: &mut Given) {
     g.count = 56404;
+}
+
+fn large_most(g: &mut Given) {
+    g.most = 65536;
 }
 
 fn large_esi(g: &mut Given) {
@@ -115,6 +135,7 @@ fn short(g: &mut Given) {
     g.words.truncate(g.words.len().saturating_sub(5));
     g.octets.truncate(g.octets.len().saturating_sub(5));
     g.list.truncate(g.list.len().saturating_sub(5));
+    g.pivots.truncate(g.pivots.len().saturating_sub(5));
     g.stores.out.truncate(g.stores.out.len().saturating_sub(5));
 }
 
@@ -172,6 +193,13 @@ pub const SOLVER: [Taker; 1] = [Taker {
     lend: |g, random, [k, j, s, h, w, ..]| g.stores = stores(random, [k, j, s, h, w], g.count, g.t, g.ids.len()),
     ask: solve,
     later: &[(5, other_tables), (9, no_count), (9, large_count), (9, large_esi), (10, no_size), (10, few_symbols), (8, short)],
+}];
+
+pub const INTAKE: [Taker; 1] = [Taker {
+    name: "intake_begin",
+    lend: lend_intake,
+    ask: begin,
+    later: &[(5, other_tables), (9, no_count), (9, large_count), (9, large_most), (10, no_size), (8, short)],
 }];
 
 impl Taker {

@@ -45,13 +45,19 @@ pub fn judged(row: Row, tables: &[u32], came: Arrived, fixed: &[Vec<u8>]) -> (Ve
     (system::verdict(equations, l), [m, l, t])
 }
 
-/// A call of ours beside it: the verdict, whether ours is the same in answer and memory, and what it left.
-fn solved(random: &mut Random, row: Row, tables: &[u32], came: Arrived, fixed: &[Vec<u8>]) -> (Verdict, bool, Stores) {
-    let (verdict, measures) = judged(row, tables, came, fixed);
+/// A call of ours beside a verdict: whether it is the same in answer and memory, and what it left.
+pub fn beside(random: &mut Random, row: Row, tables: &[u32], came: Arrived, verdict: &Verdict) -> (bool, Stores) {
     let before = stores(random, row, came.count, came.t, came.esis.len());
     let mut lent = before.clone();
     let code = archive::solve(rows::record(row), tables, came, &mut lent);
-    let same = as_told(&verdict, code, &before, &lent, measures);
+    let [l, m] = measures(row, came.count, came.esis.len());
+    (as_told(verdict, code, &before, &lent, [m, l, came.t.into()]), lent)
+}
+
+/// The verdict, whether ours is the same in answer and memory, and what it left.
+fn solved(random: &mut Random, row: Row, tables: &[u32], came: Arrived, fixed: &[Vec<u8>]) -> (Verdict, bool, Stores) {
+    let (verdict, _) = judged(row, tables, came, fixed);
+    let (same, lent) = beside(random, row, tables, came, &verdict);
     (verdict, same, lent)
 }
 
@@ -73,6 +79,17 @@ pub fn some(random: &mut Random, mut packets: Vec<EncodingPacket>, n: usize) -> 
     packets
 }
 
+/// The row that the crate takes for a block of k source symbols.
+pub fn row_for(k: u32) -> Row {
+    *rows::published().iter().find(|r| r[0] >= k).expect("a row of Table 2")
+}
+
+/// The crate's intermediate symbols.
+pub fn set_of(encoder: &SourceBlockEncoder) -> Vec<u8> {
+    let slab = &encoder.intermediate_symbols;
+    (0..slab.len()).flat_map(|i| slab.get(i).to_vec()).collect()
+}
+
 /// A block that the crate encoded, and its packets.
 struct Block {
     data: Vec<u8>,
@@ -90,9 +107,7 @@ impl Block {
         let encoder = SourceBlockEncoder::new(0, &config, &data);
         let first = if random.below(2) == 0 { 0 } else { random.below(100_000) as u32 };
         let packets = encoder.source_packets().into_iter().chain(encoder.repair_packets(first, k + 10)).collect();
-        let slab = &encoder.intermediate_symbols;
-        let set = (0..slab.len()).flat_map(|i| slab.get(i).to_vec()).collect();
-        Block { data, config, row: *rows::published().iter().find(|r| r[0] >= k).expect("a row of Table 2"), set, packets }
+        Block { data, config, row: row_for(k), set: set_of(&encoder), packets }
     }
 
     /// What the crate's decoder makes of packets, or None where it panics.
