@@ -31,10 +31,11 @@ const SPARE: usize = 16;
 /// them all. Only what came before with the same octets is not kept again, since it changes nothing (`repeat-changes-nothing`): a carousel that goes round
 /// does not fill a block. At most 65,535 packets are kept.
 ///
-/// Until the block is solved or a contradiction each of them goes to an [`Intake`] as it comes, so that less is left to do at [`solve`](Block::solve). The
-/// intake owns about (L - K + m) · (L + T) octets, where L is a little above K and m is the number of packets that it was begun for: K + 16 with the first
-/// packet or question. Where more come before the block is solved, it is begun anew for twice as many as came, at most 65,535, and what is kept is given to
-/// it once more. It is given back once the block is solved or a contradiction, since nothing is solved after that.
+/// Until the block is solved or a contradiction each of them goes to an [`Intake`] as it comes, so that a second [`solve`](Block::solve), after one that was
+/// open, does not begin anew; the first takes about as long as one call of the solver, most of it for the LDPC and HDPC rows. The intake owns about
+/// (L - K + m) · (L + T) octets, where L is a little above K and m is the number of packets that it was begun for: K + 16 with the first packet or question.
+/// Where more come before the block is solved, it is begun anew for twice as many as came, at most 65,535, and what is kept is given to it once more. It is
+/// given back once the block is solved or a contradiction, since nothing is solved after that.
 #[derive(Clone, Debug)]
 pub struct Block<'a> {
     row: Row,
