@@ -1,7 +1,7 @@
 -- The most independent rows of a matrix: that there is such a number, that there is only one, and how it grows with the rows.
 -- Assumes nothing.
 use mathlib.Core.Path.{_≡_, sym, ap, ap₂, subst, _∙_}
-use mathlib.Core.Logic.{_≢_, _⊎_, inl, inr}
+use mathlib.Core.Logic.{_≢_, _⊎_, inl, inr, _↔_}
 use Prim.Native.Nat.{ℕ, zero, suc, _+_, _≤_, _<_}
 use native.Mathlib.Omega.{arith}
 use native.Mathlib.Decide.{ℕ-discrete}
@@ -9,7 +9,7 @@ use Rattle.linear.specs.Field.{Field}
 use Rattle.linear.specs.Index.{cons, ahead, Col, cut}
 use Rattle.linear.specs.Total.{total, delta}
 use Rattle.linear.specs.Span.{lin, InSpan, Within}
-use Rattle.linear.specs.Independent.{Independent, Dependent, Choice, MostIndependent, Basis, RowsOf}
+use Rattle.linear.specs.Independent.{Independent, Dependent, Choice, MostIndependent, Basis, RowOf, RowsOf}
 use Rattle.linear.proofs.Field.{add-zero, zero-mul, add-mul, eq-of-add}
 use Rattle.linear.proofs.Index.{ahead-first, ahead-then}
 use Rattle.linear.proofs.Total.{total-ext, total-add, total-mul, delta-self, delta-other, total-delta}
@@ -157,16 +157,22 @@ module _ (K : Field) where
   pub rows-within : {J : Type 0} {M N : ℕ} {w u : ℕ → J → F} → RowsOf K M w N u → Within K M w N u
   rows-within {N = N} {u = u} f i h = span-eq K ((f i h) .2) (span-member K N u ((f i h) .0) ((f i h) .1))
 
+  -- independent vectors in the span of the rows are at most as many as the most independent rows
+  pub most-in-span : (L M n r : ℕ) (A : ℕ → ℕ → F) (u : ℕ → Col L → F) → Independent K n u → Within K n u M (cut L A)
+      → MostIndependent K M (cut L A) r → n ≤ r
+  most-in-span L M n r A u ind h a = go (basis L M A)
+    where
+      go : (t : ℕ) × Basis K M t (cut L A) → n ≤ r
+      go (t, c) =
+          let e : t ≡ r = most-unique (most-of-basis c) a in
+          let p : n ≤ t = steinitz K n t u (λ k. cut L A (c .choice .place k)) ind (within-trans K h (c .spans)) in
+          omega arith
+
   -- more rows, no smaller number
   pub most-grows : (L M N r s : ℕ) (A B : ℕ → ℕ → F) → RowsOf K M (cut L A) N (cut L B) → MostIndependent K M (cut L A) r
       → MostIndependent K N (cut L B) s → r ≤ s
-  most-grows L M N r s A B sub a b = go (basis L N B)
-    where
-      go : (t : ℕ) × Basis K N t (cut L B) → r ≤ s
-      go (t, c) =
-          let e : t ≡ s = most-unique (most-of-basis c) b in
-          let p : r ≤ t = steinitz K r t (λ k. cut L A (a .some .place k)) (λ k. cut L B (c .choice .place k)) (a .some .free) (λ k l. span-trans K (rows-within sub (a .some .place k) (a .some .below k l)) (c .spans)) in
-          omega arith
+  most-grows L M N r s A B sub a b =
+      most-in-span L N r s B (λ k. cut L A (a .some .place k)) (a .some .free) (λ k l. rows-within sub (a .some .place k) (a .some .below k l)) b
 
   -- the same rows, in any order and number: the same number
   pub most-same : (L M N r s : ℕ) (A B : ℕ → ℕ → F) → RowsOf K M (cut L A) N (cut L B) → RowsOf K N (cut L B) M (cut L A)
@@ -178,7 +184,7 @@ module _ (K : Field) where
 
   -- n rows more raise the number by n at most
   pub most-more : (L M N n r s : ℕ) (A B v : ℕ → ℕ → F)
-      → ((i : ℕ) → i < N → ((k : ℕ) × (k < M) × ((c : Col L) → cut L B i c ≡ cut L A k c)) ⊎ ((k : ℕ) × (k < n) × ((c : Col L) → cut L B i c ≡ cut L v k c)))
+      → ((i : ℕ) → i < N → RowOf K (cut L B i) M (cut L A) ⊎ RowOf K (cut L B i) n (cut L v))
       → MostIndependent K M (cut L A) r → MostIndependent K N (cut L B) s → s ≤ n + r
   most-more L M N n r s A B v only a b = go (basis L M A)
     where
@@ -203,7 +209,51 @@ module _ (K : Field) where
           inside : (i : ℕ) → i < N → InSpan K (n + t) (cut L all) (cut L B i)
           inside i h = which (only i h)
             where
-              which : ((k : ℕ) × (k < M) × ((c : Col L) → cut L B i c ≡ cut L A k c)) ⊎ ((k : ℕ) × (k < n) × ((c : Col L) → cut L B i c ≡ cut L v k c))
+              which : RowOf K (cut L B i) M (cut L A) ⊎ RowOf K (cut L B i) n (cut L v)
                   → InSpan K (n + t) (cut L all) (cut L B i)
               which (inl (k, l, e)) = span-eq K e (span-trans K (base .spans k l) old-in)
               which (inr (k, l, e)) = span-eq K e (new-in k l)
+
+  -- n rows more leave the number exactly when each of them is a combination of the rows that were there
+  module _ (L M N n r s : ℕ) (A B v : ℕ → ℕ → F) (old : RowsOf K M (cut L A) N (cut L B)) (new : RowsOf K n (cut L v) N (cut L B))
+      (only : (i : ℕ) → i < N → RowOf K (cut L B i) M (cut L A) ⊎ RowOf K (cut L B i) n (cut L v))
+      (a : MostIndependent K M (cut L A) r) (b : MostIndependent K N (cut L B) s) where
+    -- one of them beside a basis: it is in the span, or the number has grown
+    beside : (t : ℕ) → Basis K M t (cut L A) → (k : ℕ) → k < n → InSpan K M (cut L A) (cut L v k) ⊎ (t < s)
+    beside t base k h = go (grow L t chosen (base .choice .free))
+      where
+        chosen : ℕ → ℕ → F
+        chosen = cons (v k) (λ i. A (base .choice .place i))
+
+        inside : Within K (suc t) (cut L chosen) N (cut L B)
+        inside zero l = rows-within new k h
+        inside (suc i) l = rows-within old (base .choice .place i) (base .choice .below i (omega arith))
+
+        go : InSpan K t (λ i. cut L chosen (suc i)) (cut L chosen zero) ⊎ Independent K (suc t) (cut L chosen) → InSpan K M (cut L A) (cut L v k) ⊎ (t < s)
+        go (inl x) = inl (span-trans K x (λ i l. span-member K M (cut L A) (base .choice .place i) (base .choice .below i l)))
+        go (inr ind) = inr (let p : suc t ≤ s = most-in-span L N (suc t) s B (cut L chosen) ind inside b in omega arith)
+
+    stays-within : s ≡ r → Within K n (cut L v) M (cut L A)
+    stays-within e k h = go (basis L M A)
+      where
+        go : (t : ℕ) × Basis K M t (cut L A) → InSpan K M (cut L A) (cut L v k)
+        go (t, base) = which (beside t base k h)
+          where
+            which : InSpan K M (cut L A) (cut L v k) ⊎ (t < s) → InSpan K M (cut L A) (cut L v k)
+            which (inl x) = x
+            which (inr l) = absurd (let q : t ≡ r = most-unique (most-of-basis base) a in omega arith)
+
+    within-stays : Within K n (cut L v) M (cut L A) → s ≡ r
+    within-stays w =
+        let f = b .some in
+        let p : s ≤ r = most-in-span L M s r A (λ k. cut L B (f .place k)) (f .free) (λ k l. which (only (f .place k) (f .below k l))) a in
+        let q : r ≤ s = most-grows L M N r s A B old a b in
+        omega arith
+      where
+        which : {i : ℕ} → RowOf K (cut L B i) M (cut L A) ⊎ RowOf K (cut L B i) n (cut L v)
+            → InSpan K M (cut L A) (cut L B i)
+        which (inl (k, l, e)) = span-eq K e (span-member K M (cut L A) k l)
+        which (inr (k, l, e)) = span-eq K e (w k l)
+
+    pub most-stays : (s ≡ r) ↔ Within K n (cut L v) M (cut L A)
+    most-stays = (stays-within, within-stays)

@@ -10,12 +10,15 @@ use native.Mathlib.Omega.{arith}
 use Rattle.field.specs.Octet.{times}
 use Rattle.field.specs.Sum.{sum}
 use Rattle.linear.specs.Index.{Col, cut}
+use Rattle.linear.specs.Span.{Within}
+use Rattle.linear.specs.Independent.{RowOf, RowsOf}
 use Rattle.linear.specs.System.{System, SameEquation, OneOf, Included, joined}
 use Rattle.linear.specs.Octets.{octets, oct}
 use Rattle.linear.specs.Bytes.{OctetSymbols, FitsBytes, ShortfallBytes, cell, inOctets}
 use Rattle.linear.proofs.Index.{ahead-first, ahead-then}
-use Rattle.linear.proofs.Independent.{most-more}
-use Rattle.linear.proofs.Growth.{meets-one, fits-bytes-fewer}
+use Rattle.linear.proofs.Independent.{most-more, most-stays}
+use Rattle.linear.proofs.Growth.{meets-one, fits-bytes-fewer, included-octets}
+use Rattle.linear.proofs.Shortfall.{rows-of}
 
 -- ---- equations of one system among those of another
 
@@ -101,18 +104,36 @@ octets-joined T S R f g = record { below = λ i h t l. go i t l (joined-each 0 T
 
 -- ---- equations more
 
--- The rows of R are rows of S and of N, whatever the symbols (so T is 0): the shortfall falls by no more than N has. So an open answer is not
--- followed by solved after fewer equations than it says.
-pub shortfall-floor : {L T : ℕ} (S N : System ℕ) {R : System ℕ} {s t : ℕ} → Included L 0 R (joined S N) → ShortfallBytes L T S s → ShortfallBytes L T R t
-    → s ≤ N .count + t
-shortfall-floor {L} S N {R} inc x y =
-    let h : y .lacks .rank ≤ N .count + x .lacks .rank = most-more octets L (S .count) (R .count) (N .count) (x .lacks .rank) (y .lacks .rank)
-    (inOctets S .coef) (inOctets R .coef) (inOctets N .coef)
-    (λ i l. let o = inc i l in which i (o .0) (o .2) (joined-each L 0 S N (o .0) (o .1))) (x .lacks .most) (y .lacks .most) in
-    omega (arith, x .lacks .less, y .lacks .less)
-  where
-    which : (i k : ℕ) → SameEquation L 0 R i (joined S N) k → OneOf L 0 (joined S N) k S ⊎ OneOf L 0 (joined S N) k N
-        → ((m : ℕ) × (m < S .count) × ((c : Col L) → cut L (inOctets R .coef) i c ≡ cut L (inOctets S .coef) m c))
-        ⊎ ((m : ℕ) × (m < N .count) × ((c : Col L) → cut L (inOctets R .coef) i c ≡ cut L (inOctets N .coef) m c))
-    which i k s (inl o) = inl (o .0, o .1, λ c. ap oct (s .coefs (c .0) (c .1) ∙ o .2 .coefs (c .0) (c .1)))
-    which i k s (inr o) = inr (o .0, o .1, λ c. ap oct (s .coefs (c .0) (c .1) ∙ o .2 .coefs (c .0) (c .1)))
+-- Rows alone, whatever the symbols: so T is 0.
+module _ {L T : ℕ} (S N : System ℕ) {R : System ℕ} {s t : ℕ} (inc : Included L 0 R (joined S N)) (x : ShortfallBytes L T S s) (y : ShortfallBytes L T R t) where
+  -- row i of R is one of Q
+  abbrev Of : System ℕ → ℕ → Type 0
+  Of Q i = RowOf octets (cut L (inOctets R .coef) i) (Q .count) (cut L (inOctets Q .coef))
+
+  rows : {Q P : System ℕ} → Included L 0 Q P → RowsOf octets (Q .count) (cut L (inOctets Q .coef)) (P .count) (cut L (inOctets P .coef))
+  rows f = rows-of octets L 0 (included-octets f)
+
+  -- the rows of R are rows of S and of N
+  which : (i : ℕ) → i < R .count → Of S i ⊎ Of N i
+  which i h = let o = inc i h in go (o .2) (joined-each L 0 S N (o .0) (o .1))
+    where
+      go : {k : ℕ} → SameEquation L 0 R i (joined S N) k → OneOf L 0 (joined S N) k S ⊎ OneOf L 0 (joined S N) k N → Of S i ⊎ Of N i
+      go e (inl o) = inl (o .0, o .1, λ c. ap oct (e .coefs (c .0) (c .1) ∙ o .2 .coefs (c .0) (c .1)))
+      go e (inr o) = inr (o .0, o .1, λ c. ap oct (e .coefs (c .0) (c .1) ∙ o .2 .coefs (c .0) (c .1)))
+
+  -- So the shortfall falls by no more than N has: an open answer is not followed by solved after fewer equations than it says.
+  pub shortfall-floor : s ≤ N .count + t
+  shortfall-floor =
+      let h : y .lacks .rank ≤ N .count + x .lacks .rank = most-more octets L (S .count) (R .count) (N .count) (x .lacks .rank) (y .lacks .rank)
+      (inOctets S .coef) (inOctets R .coef) (inOctets N .coef) which (x .lacks .most) (y .lacks .most) in
+      omega (arith, x .lacks .less, y .lacks .less)
+
+  -- And where R has all rows of both it stays exactly when every row of N is a combination of rows of S.
+  pub shortfall-stays : Included L 0 (joined S N) R → (t ≡ s) ↔ Within octets (N .count) (cut L (inOctets N .coef)) (S .count) (cut L (inOctets S .coef))
+  shortfall-stays all =
+      let m = most-stays octets L (S .count) (R .count) (N .count) (x .lacks .rank) (y .lacks .rank) (inOctets S .coef) (inOctets R .coef) (inOctets N .coef)
+      (rows (included-then (included-first L 0 S N) all)) (rows (included-then (included-second L 0 S N) all))
+      which (x .lacks .most) (y .lacks .most) in (
+        λ e. m .0 (omega (arith, x .lacks .less, y .lacks .less)),
+        λ w. let e : y .lacks .rank ≡ x .lacks .rank = m .1 w in omega (arith, x .lacks .less, y .lacks .less),
+      )

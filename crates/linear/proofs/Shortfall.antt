@@ -17,7 +17,7 @@ module _ (K : Field) (L T : ℕ) where
       let e : a .rank ≡ b .rank = most-unique K (a .most) (b .most) in
       omega (arith, a .less, b .less)
 
-  rows-of : {S R : System F} → Included L T S R → RowsOf K (S .count) (cut L (S .coef)) (R .count) (cut L (R .coef))
+  pub rows-of : {S R : System F} → Included L T S R → RowsOf K (S .count) (cut L (S .coef)) (R .count) (cut L (R .coef))
   rows-of h i l = ((h i l) .0, (h i l) .1, λ c. (h i l) .2 .coefs (c .0) (c .1))
 
   pub shortfall-never-grows : {S R : System F} {s t : ℕ} → Included L T S R → Shortfall K L T S s → Shortfall K L T R t → t ≤ s

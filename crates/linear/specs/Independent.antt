@@ -38,6 +38,10 @@ module _ (K : Field) where
       pub choice : Choice M r w
       pub spans : Within K M w r (λ k. w (choice .place k))
 
+    -- v is one of the rows u 0 .. u (N - 1)
+    abbrev pub RowOf : (J → F) → ℕ → (ℕ → J → F) → Type 0
+    RowOf v N u = (k : ℕ) × (k < N) × ((j : J) → v j ≡ u k j)
+
     -- each row of the first is a row of the second
     abbrev pub RowsOf : ℕ → (ℕ → J → F) → ℕ → (ℕ → J → F) → Type 0
-    RowsOf M w N u = (i : ℕ) → i < M → (k : ℕ) × (k < N) × ((j : J) → w i j ≡ u k j)
+    RowsOf M w N u = (i : ℕ) → i < M → RowOf (w i) N u

@@ -30,7 +30,7 @@ use Rattle.promises.proofs.Fitting.{fitting-fits, fits-fitting}
 contradiction-not-solved : Contradiction ≡ Solved → ⊥
 contradiction-not-solved e = let z : _≡_ {A = ℕ} 0 1 = cc in omega arith
 
-open-not-solved : {s : ℕ} → Open s ≡ Solved → ⊥
+pub open-not-solved : {s : ℕ} → Open s ≡ Solved → ⊥
 open-not-solved e = let z : _≡_ {A = ℕ} 0 1 = cc in omega arith
 
 open-not-contradiction : {s : ℕ} → Open s ≡ Contradiction → ⊥

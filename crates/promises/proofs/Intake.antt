@@ -25,7 +25,8 @@ use Rattle.solver.specs.declared.solver.Solution.the-variants.{Given, Refused}
 use Rattle.solver.proofs.Displays.{large-none}
 use Rattle.intake.specs.State.{Begun, tIn, lIn, mIn}
 use Rattle.intake.specs.Night.{Stretch, Holding, askable}
-use Rattle.promises.specs.Nights.{Memory, Event, question, Happens, Night, Since, nothing, stretch, sinceBegin, Keeps, Question, CallOn, RoomFor, Alike}
+use Rattle.promises.specs.Nights.{Memory, Event, question, Happens, Night, Since, nothing, stretch, sinceBegin, Keeps}
+use Rattle.promises.specs.Nights.{Question, CallOn, RoomFor, SameAnswer}
 use Rattle.promises.proofs.Among.{among-self}
 use Rattle.promises.proofs.Order.{order-free, order-free-out}
 use Rattle.promises.proofs.Unbegun.{begun-given, never-accepted}
@@ -131,8 +132,8 @@ question-call {xs} {o} {o₁} {w} q = go (sinceBegin xs) refl (night-holds xs (q
 -- ---- the theorem of E1
 
 -- two calls on one stretch are answered alike
-calls-alike : (z : Stretch) (o o₁ p p₁ : List ℕ) (w u : Verdict) → CallOn z o o₁ (Given w) → CallOn z p p₁ (Given u) → Alike (z .row) (z .t) o o₁ p p₁ w u
-calls-alike z o o₁ p p₁ w u c d =
+calls-same : (z : Stretch) (o o₁ p p₁ : List ℕ) (w u : Verdict) → CallOn z o o₁ (Given w) → CallOn z p p₁ (Given u) → SameAnswer (z .row) (z .t) o o₁ p p₁ w u
+calls-same z o o₁ p p₁ w u c d =
     let s = among-self (z .t) (z .esis) (z .symbols) in
     let e = order-free s s w u c d in
     record { verdict = e .0; set = e .1; store = λ q. order-free-out s s q w u c d }
@@ -140,10 +141,10 @@ calls-alike z o o₁ p p₁ w u c d =
 -- After every night, whatever its begins, packets and questions were, a question is answered as `solve` answers on the packets accepted since the last
 -- accepted begin: the verdict, the shortfall, the set, and the whole out store where it was the same before.
 pub intake-equals-solver : {xs : List Event} {o o₁ : List ℕ} {w : Verdict} → Question xs o o₁ (Given w)
-    → (z : Stretch) × (sinceBegin xs ≡ stretch z) × ((p p₁ : List ℕ) (u : Verdict) → CallOn z p p₁ (Given u) → Alike (z .row) (z .t) o o₁ p p₁ w u)
+    → (z : Stretch) × (sinceBegin xs ≡ stretch z) × ((p p₁ : List ℕ) (u : Verdict) → CallOn z p p₁ (Given u) → SameAnswer (z .row) (z .t) o o₁ p p₁ w u)
 intake-equals-solver {xs} {o} {o₁} {w} q =
     let c = question-call q in
-    (c .0, c .1, λ p p₁ u d. calls-alike (c .0) o o₁ p p₁ w u (c .2) d)
+    (c .0, c .1, λ p p₁ u d. calls-same (c .0) o o₁ p p₁ w u (c .2) d)
 
 -- and with stores that are long enough `solve` does answer: it refuses none of these packets
 pub solve-not-refused : (xs : List Event) (m n : Memory) (z : Stretch) → ¬ Begun (m .state) (m .pivots) → Night xs m n → sinceBegin xs ≡ stretch z

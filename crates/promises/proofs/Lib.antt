@@ -1,4 +1,5 @@
--- The theorems of demand 3 about calls, and of document 02, E1, about nights. A crate above names these as `Rattle.promises.proofs.Growth`.
+-- The theorems of demand 3 about calls, of document 02, E1, about nights, and of E9 about the shortfall of both. A crate above names these as
+-- `Rattle.promises.proofs.Growth`.
 pub mod Among
 pub mod Equations
 pub mod Fitting
@@ -8,10 +9,13 @@ pub mod Order
 pub mod Never
 pub mod Twice
 pub mod Fewer
+pub mod SentRows
+pub mod Floor
 pub mod Reencoding
 pub mod Listening
 pub mod Unbegun
 pub mod Nights
 pub mod Intake
 pub mod Stretches
+pub mod Waiting
 pub mod Accepting

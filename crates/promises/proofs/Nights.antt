@@ -81,7 +81,7 @@ night-holds xs m n u h = held-all xs nothing m n h u
 
 -- ---- refusal 14
 
-stretch-not-nothing : {z : Stretch} → stretch z ≡ nothing → ⊥
+pub stretch-not-nothing : {z : Stretch} → stretch z ≡ nothing → ⊥
 stretch-not-nothing e = let z : _≡_ {A = ℕ} 0 1 = cc in omega arith
 
 keeps-unbegun : (was : Since) (m : Memory) → Keeps was m → (¬ Begun (m .state) (m .pivots)) ↔ (was ≡ nothing)

@@ -12,11 +12,12 @@ use Rattle.solver.specs.declared.solver.Solution.{Solution}
 use Rattle.solver.specs.declared.solver.Solution.the-variants.{Given}
 use Rattle.intake.specs.Night.{Stretch, arrived}
 use Rattle.promises.specs.Calls.{Among, setIn}
-use Rattle.promises.specs.Nights.{Memory, Event, begin, packet, question, Happens, Night, Since, stretch, after, afterAll, sinceBegin}
-use Rattle.promises.specs.Nights.{Question, CallOn, NoBegin, withPackets, extended, Continues}
+use Rattle.promises.specs.Nights.{Memory, Event, begin, packet, question, Happens, Night, Since, nothing, stretch, after, afterAll, sinceBegin}
+use Rattle.promises.specs.Nights.{Question, CallOn, NoBegin, acceptedEsis, acceptedSymbols, withPackets, extended, withAccepted}
 use Rattle.promises.proofs.Among.{among-more}
 use Rattle.promises.proofs.Exactly.{accepted}
 use Rattle.promises.proofs.Growth.{solved-then, contradiction-then, open-then}
+use Rattle.promises.proofs.Nights.{stretch-not-nothing}
 use Rattle.promises.proofs.Intake.{question-call}
 
 -- ---- the packets
@@ -31,23 +32,19 @@ extended-none z = ap₂ (withPackets z) (append-nil (z .esis)) (append-nil (z .s
 extended-more : (z : Stretch) (e : ℕ) (s es xs : List ℕ) → extended (arrived z e s) es xs ≡ extended z (e ∷ es) (s ++ xs)
 extended-more z e s es xs = ap₂ (withPackets z) (append-assoc (z .esis) (e ∷ []) es) (append-assoc (z .symbols) s xs)
 
-continues-packet : {z : Stretch} (e : ℕ) (s : List ℕ) {now : Since} → Continues (arrived z e s) now → Continues z now
-continues-packet {z} e s c = record { esis = e ∷ c .esis; symbols = s ++ c .symbols; is = c .is ∙ ap stretch (extended-more z e s (c .esis) (c .symbols)) }
-
--- without an accepted begin the stretch goes on: row, tables, K, T and the packets that it had stay, and packets come behind them
-continues : (ys : List Event) → NoBegin ys → (z : Stretch) → Continues z (afterAll (stretch z) ys)
-continues [] n z = record { esis = []; symbols = []; is = ap stretch (sym (extended-none z)) }
+-- without an accepted begin the stretch goes on: row, tables, K, T and the packets that it had stay, and those that were accepted come behind them
+continues : (ys : List Event) → NoBegin ys → (z : Stretch) → afterAll (stretch z) ys ≡ stretch (withAccepted z ys)
+continues [] n z = ap stretch (sym (extended-none z))
 continues (begin r v k t most Plains.Done ∷ ys) n z = absurd n
 continues (begin r v k t most (Plains.Refused why) ∷ ys) n z = continues ys n z
-continues (packet e s Plains.Done ∷ ys) n z = continues-packet e s (continues ys n (arrived z e s))
+continues (packet e s Plains.Done ∷ ys) n z =
+    continues ys n (arrived z e s) ∙ ap stretch (extended-more z e s (acceptedEsis ys) (acceptedSymbols ys))
 continues (packet e s (Plains.Refused why) ∷ ys) n z = continues ys n z
 continues (question o o₁ x ∷ ys) n z = continues ys n z
 
 -- so of a night, cut in two
-pub since-continues : (xs ys : List Event) (z : Stretch) → NoBegin ys → sinceBegin xs ≡ stretch z → Continues z (sinceBegin (xs ++ ys))
-since-continues xs ys z n e =
-    let c = continues ys n z in
-    record { esis = c .esis; symbols = c .symbols; is = after-append xs ys _ ∙ ap (λ (s : Since). afterAll s ys) e ∙ c .is }
+pub since-continues : (xs ys : List Event) (z : Stretch) → NoBegin ys → sinceBegin xs ≡ stretch z → sinceBegin (xs ++ ys) ≡ stretch (withAccepted z ys)
+since-continues xs ys z n e = after-append xs ys _ ∙ ap (λ (s : Since). afterAll s ys) e ∙ continues ys n z
 
 -- ---- the two questions
 
@@ -66,31 +63,51 @@ earlier xs ys o o₁ p p₁ x y q =
 stretch-only : (z y : Stretch) → stretch z ≡ stretch y → z ≡ y
 stretch-only z y e = cc
 
--- both are calls of `solve`, of which the later one's arrivals begin with the earlier one's
-record Both (xs : List Event) (o o₁ p p₁ : List ℕ) (w u : Verdict) : Type 0 where
-  held : Stretch
-  is : sinceBegin xs ≡ stretch held
-  esis : List ℕ
-  symbols : List ℕ
-  first : CallOn held o o₁ (Given w)
-  second : CallOn (extended held esis symbols) p p₁ (Given u)
-  among : Among (held .t) (held .esis) (held .symbols) (held .esis ++ esis) (held .symbols ++ symbols)
+-- a question is a call of `solve` on the stretch that there was
+pub call-on : {xs : List Event} {z : Stretch} {o o₁ : List ℕ} {w : Verdict} → Question xs o o₁ (Given w) → sinceBegin xs ≡ stretch z → CallOn z o o₁ (Given w)
+call-on {xs} {z} {o} {o₁} {w} q e =
+    let c = question-call q in
+    subst (λ (y : Stretch). CallOn y o o₁ (Given w)) (stretch-only (c .0) z (sym (c .1) ∙ e)) (c .2)
 
-both : (xs ys : List Event) (o o₁ p p₁ : List ℕ) (w u : Verdict) → NoBegin ys → Question (xs ++ (question o o₁ (Given w) ∷ ys)) p p₁ (Given u)
-    → Both xs o o₁ p p₁ w u
+-- where nothing was begun, and no begin was accepted since, nothing is
+unbegun-stays : (ys : List Event) → NoBegin ys → afterAll nothing ys ≡ nothing
+unbegun-stays [] n = refl
+unbegun-stays (begin r v k t most Plains.Done ∷ ys) n = absurd n
+unbegun-stays (begin r v k t most (Plains.Refused why) ∷ ys) n = unbegun-stays ys n
+unbegun-stays (packet e s Plains.Done ∷ ys) n = unbegun-stays ys n
+unbegun-stays (packet e s (Plains.Refused why) ∷ ys) n = unbegun-stays ys n
+unbegun-stays (question o o₁ x ∷ ys) n = unbegun-stays ys n
+
+-- so the begin of a question that is answered was accepted before
+pub begun-before : (xs ys : List Event) {o o₁ : List ℕ} {w : Verdict} → NoBegin ys → Question (xs ++ ys) o o₁ (Given w)
+    → (z : Stretch) × (sinceBegin xs ≡ stretch z)
+begun-before xs ys n q = go (sinceBegin xs) refl
+  where
+    go : (s : Since) → sinceBegin xs ≡ s → (z : Stretch) × (sinceBegin xs ≡ stretch z)
+    go nothing e =
+        absurd (let c = question-call q in stretch-not-nothing
+        (sym (c .1) ∙ after-append xs ys _ ∙ ap (λ (s : Since). afterAll s ys) e ∙ unbegun-stays ys n))
+    go (stretch z) e = (z, e)
+
+-- both are calls of `solve`, of which the later one's arrivals begin with the earlier one's
+pub record Both (xs ys : List Event) (o o₁ p p₁ : List ℕ) (w u : Verdict) : Type 0 where
+  pub held : Stretch
+  pub is : sinceBegin xs ≡ stretch held
+  pub first : CallOn held o o₁ (Given w)
+  pub second : CallOn (withAccepted held ys) p p₁ (Given u)
+  pub among : Among (held .t) (held .esis) (held .symbols) (held .esis ++ acceptedEsis ys) (held .symbols ++ acceptedSymbols ys)
+
+pub both : (xs ys : List Event) (o o₁ p p₁ : List ℕ) (w u : Verdict) → NoBegin ys → Question (xs ++ (question o o₁ (Given w) ∷ ys)) p p₁ (Given u)
+    → Both xs ys o o₁ p p₁ w u
 both xs ys o o₁ p p₁ w u n q =
     let a = question-call (earlier xs ys o o₁ p p₁ (Given w) (Given u) q) in
-    let b = question-call q in
     let z : Stretch = a .0 in
-    let c = since-continues xs (question o o₁ (Given w) ∷ ys) z n (a .1) in
     record {
       held = z;
       is = a .1;
-      esis = c .esis;
-      symbols = c .symbols;
       first = a .2;
-      second = subst (λ (y : Stretch). CallOn y p p₁ (Given u)) (stretch-only (b .0) _ (sym (b .1) ∙ c .is)) (b .2);
-      among = among-more (z .t) (z .esis) (z .symbols) (c .esis) (c .symbols) (accepted w (a .2) .fillable .all);
+      second = call-on q (since-continues xs (question o o₁ (Given w) ∷ ys) z n (a .1));
+      among = among-more (z .t) (z .esis) (z .symbols) (acceptedEsis ys) (acceptedSymbols ys) (accepted w (a .2) .fillable .all);
     }
 
 -- ---- demand 3

@@ -12,11 +12,14 @@ use Rattle.headers.specs.declared.row.Row.{Row}
 use Rattle.constraints.specs.Hdpc.{hdpcOf}
 use Rattle.constraints.specs.Ldpc.{ldpcOf}
 use Rattle.linear.specs.Bytes.{cell, Block, inOctets}
-use Rattle.linear.specs.Index.{cut}
+use Rattle.linear.specs.Index.{Col, cut}
+use Rattle.linear.specs.Span.{InSpan}
 use Rattle.linear.specs.Independent.{MostIndependent}
-use Rattle.linear.specs.Octets.{octets}
+use Rattle.linear.specs.Octets.{octets, oct}
 use Rattle.encoding.specs.Encoded.{Encodes, combined, encoded}
-use Rattle.solver.specs.System.{Solves, equations, systemOf}
+use Rattle.elimination.specs.declared.verdict.Verdict.{Verdict}
+use Rattle.elimination.specs.declared.verdict.Verdict.the-variants.{Solved, Contradiction, Open}
+use Rattle.solver.specs.System.{Solves, equations, sentRow, systemOf}
 use Rattle.solver.specs.declared.solver.Solution.{Solution}
 
 -- a call of `solve`: ESIs es, symbols xs, the out store o before and o₁ after, and the answer; whatever the two scratch stores were
@@ -82,6 +85,32 @@ pub record Several (v : List ℕ) (r : Row) (k t : ℕ) (es xs : List ℕ) : Typ
 -- the most rows of the call's system that are independent are n; its symbols count for nothing, so none are given
 abbrev pub MostRows : List ℕ → Row → ℕ → List ℕ → ℕ → Type 0
 MostRows v r k es n = MostIndependent octets (equations r k (length es)) (cut (lOf r) (inOctets (systemOf r v k 0 es []) .coef)) n
+
+-- ---- the shortfall as a floor (document 02, E9)
+
+-- what an answer lacks: the shortfall where it is open, 0 where it is solved; of a contradiction nothing is said
+abbrev pub Lacks : Verdict → ℕ → Type 0
+Lacks Solved n = n ≡ 0
+Lacks Contradiction n = ⊥
+Lacks (Open s) n = n ≡ s
+
+-- the ESIs e and f have one row (RFC 6330, 5.3.5.3), as every ESI has with itself
+pub record SameRow (v : List ℕ) (r : Row) (k e f : ℕ) : Type 0 where
+  pub coefs : (c : ℕ) → c < lOf r → sentRow v r k e c ≡ sentRow v r k f c
+
+-- each row of the ESIs fs is a row of the ESIs es: neither order nor repetition counts, nor do the symbols that came
+pub record RowsAmong (v : List ℕ) (r : Row) (k : ℕ) (fs es : List ℕ) : Type 0 where
+  pub each : (i : ℕ) → i < length fs → (j : ℕ) × (j < length es) × SameRow v r k (getD fs i 0) (getD es j 0)
+
+-- and each of es is one of fs
+pub record SameRows (v : List ℕ) (r : Row) (k : ℕ) (fs es : List ℕ) : Type 0 where
+  pub to : RowsAmong v r k fs es
+  pub back : RowsAmong v r k es fs
+
+-- the row of the ESI e depends on those of a call with the ESIs es: it is a combination of them and of the rows that row, tables and K fix
+abbrev pub Depends : List ℕ → Row → ℕ → List ℕ → ℕ → Type 0
+Depends v r k es e =
+    InSpan octets (equations r k (length es)) (cut (lOf r) (inOctets (systemOf r v k 0 es []) .coef)) (λ (c : Col (lOf r)). oct (sentRow v r k e (c .0)))
 
 -- ---- encoding
 

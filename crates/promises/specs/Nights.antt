@@ -100,7 +100,7 @@ pub record RoomFor (z : Stretch) (a d o : List ℕ) : Type 0 where
   pub out : lOf (z .row) * z .t ≤ length o
 
 -- two answers are one: the verdict with its shortfall, the set, and the whole out store if it was the same before
-pub record Alike (r : Row) (t : ℕ) (o o₁ p p₁ : List ℕ) (w u : Verdict) : Type 0 where
+pub record SameAnswer (r : Row) (t : ℕ) (o o₁ p p₁ : List ℕ) (w u : Verdict) : Type 0 where
   pub verdict : w ≡ u
   pub set : w ≡ Solved → setIn r t o₁ ≡ setIn r t p₁
   pub store : o ≡ p → o₁ ≡ p₁
@@ -115,6 +115,26 @@ NoBegin (begin r v k t most (Plains.Refused why) ∷ xs) = NoBegin xs
 NoBegin (packet e s x ∷ xs) = NoBegin xs
 NoBegin (question o o₁ x ∷ xs) = NoBegin xs
 
+-- the ESIs of the packets that were accepted, in their order: a refused one does not count
+abbrev pub acceptedEsis : List Event → List ℕ
+acceptedEsis [] = []
+acceptedEsis (begin r v k t most x ∷ xs) = acceptedEsis xs
+acceptedEsis (packet e s Plains.Done ∷ xs) = e ∷ acceptedEsis xs
+acceptedEsis (packet e s (Plains.Refused why) ∷ xs) = acceptedEsis xs
+acceptedEsis (question o o₁ x ∷ xs) = acceptedEsis xs
+
+-- and their symbols
+abbrev pub acceptedSymbols : List Event → List ℕ
+acceptedSymbols [] = []
+acceptedSymbols (begin r v k t most x ∷ xs) = acceptedSymbols xs
+acceptedSymbols (packet e s Plains.Done ∷ xs) = s ++ acceptedSymbols xs
+acceptedSymbols (packet e s (Plains.Refused why) ∷ xs) = acceptedSymbols xs
+acceptedSymbols (question o o₁ x ∷ xs) = acceptedSymbols xs
+
+-- how many they are: document 02, E9, counts by this
+abbrev pub acceptedCount : List Event → ℕ
+acceptedCount xs = length (acceptedEsis xs)
+
 -- a stretch that began as z did, with these packets
 abbrev pub withPackets : Stretch → (es xs : List ℕ) → Stretch
 withPackets z es xs = record { row = z .row; tables = z .tables; k = z .k; t = z .t; most = z .most; esis = es; symbols = xs }
@@ -123,8 +143,6 @@ withPackets z es xs = record { row = z .row; tables = z .tables; k = z .k; t = z
 abbrev pub extended : Stretch → (es xs : List ℕ) → Stretch
 extended z es xs = withPackets z (z .esis ++ es) (z .symbols ++ xs)
 
--- what came by now is such a stretch
-pub record Continues (z : Stretch) (now : Since) : Type 0 where
-  pub esis : List ℕ
-  pub symbols : List ℕ
-  pub is : now ≡ stretch (extended z esis symbols)
+-- and those of these calls that were accepted come behind them
+abbrev pub withAccepted : Stretch → List Event → Stretch
+withAccepted z xs = extended z (acceptedEsis xs) (acceptedSymbols xs)

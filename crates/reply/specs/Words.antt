@@ -44,6 +44,7 @@ stopWords t Stops.TooLarge = ascii "too large for this program: T is at most 1,0
 stopWords t Stops.SeveralBlocks = ascii "several blocks: this program takes one source block of one sub-block\n"
 stopWords t Stops.OtherBlock = ascii "another block: a packet has a block number other than 0\n"
 
+-- 'at least' is a promise: `not-before` (promises/proofs/Floor), that fewer packets more do not solve it, whatever they bring
 abbrev pub openWords : ℕ → List ℕ
 openWords s = ascii "open, " ++ (spelled 20 s ++ ascii " more independent packets at least\n")
 

@@ -85,6 +85,7 @@ pub fn stopped(out: &mut [u8], why: Stop, t: Typed) -> usize
     }
 }
 
+// The x of an open delivery is a floor: fewer packets more do not solve it (the theorem `not-before` of promises).
 pub fn open(out: &mut [u8], x: u32) -> usize
     requires { ⌜ 200 ≤ length (now out) ⌝ }
     ensures { λ r. ⌜ Line (openWords x) (now (out .entry)) (now (out .exit)) r ⌝ }
