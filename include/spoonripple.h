@@ -362,7 +362,9 @@ uint32_t spoonripple_encode(uint32_t k, uint32_t j, uint32_t s, uint32_t h, uint
  *                              (just as many damaged arrivals as are needed fit some set too: drop them by the link's checksum)
  *   SPOONRIPPLE_CONTRADICTION  none fits: something that arrived is not what the sender sent
  *   SPOONRIPPLE_OPEN           more than one fits: shortfall[0] independent rows are missing, so that at least so many more
- *                              arrivals are needed
+ *                              arrivals are needed: with fewer, whatever they bring, the answer is not SPOONRIPPLE_DONE (theorem
+ *                              not-before, docs/PROMISES.md). One more lowers the number by one or leaves it (falls-by-one), and its
+ *                              row alone decides which (row-alone), unless it makes a contradiction
  * or a refusal: 4 (the row, with its part), 5 (the tables), 9 (an ESI of 2^24 or more), 9 (count not in 1..K'), 9 (more than 65,535
  * arrivals), 10 (t is 0), 10 (symbols_len is not n * t), 8 (rows, values or out too short), 8 (shortfall has no place).
  * Lent: rows and values are scratch of any content, M * L and M * t octets, where M = L - count + n; out is L * t octets.
@@ -441,8 +443,9 @@ uint32_t spoonripple_intake_packet(uint32_t esi, const uint8_t *symbol, size_t s
 /* What is known of the packets accepted since the last accepted begin: answer, symbols and shortfall that spoonripple_solve gives on
  * them, SPOONRIPPLE_DONE, SPOONRIPPLE_CONTRADICTION or SPOONRIPPLE_OPEN. Packets may go on after it, and a question may follow a
  * question. The first one takes the LDPC, HDPC and padding rows in, which takes about as long as spoonripple_solve on these packets,
- * and each packet after that costs more: it is worth asking once count packets came, and after SPOONRIPPLE_OPEN once as many more did
- * as the shortfall says.
+ * and each packet after that costs more: it is worth asking once count packets were accepted. After SPOONRIPPLE_OPEN asking again
+ * cannot help before as many more were accepted as the shortfall says: until then the answer is SPOONRIPPLE_OPEN or
+ * SPOONRIPPLE_CONTRADICTION (theorem not-before-later, docs/PROMISES.md). Packets that were refused do not count.
  * Refusals: 14 (not begun), 8 (rows below M * L octets, values below M * t octets, out below L * t octets), 8 (shortfall has no place).
  * Writes words 12 to 14 of state, the first L places of pivots, the first M * L octets of rows and M * t of values; the first L * t
  * octets of out only with SPOONRIPPLE_DONE, shortfall[0] only with SPOONRIPPLE_OPEN.

@@ -218,9 +218,11 @@ enum { FIRST = 2, LONG = sizeof five / sizeof *five - 1 };
 /* A night's blocks: small, of symbols with a large frame, of a row with one. */
 enum { ORDINARY, WIDE, LONGER };
 
-/* What was begun last and what was accepted since, and the symbols that its sender encodes. */
+/* What was begun last and what was accepted since, the symbols that its sender encodes, and the least number of packets that may solve it: as many as were
+ * there when it was open and the shortfall more (theorem not-before-later, docs/PROMISES.md). */
 static struct {
     struct call begun;
+    uint64_t least;
     uint32_t tables[1024], esis[SENT], n;
     uint8_t symbols[ROOM], set[ROOM];
 } stretch;
@@ -292,7 +294,7 @@ static void step_begin(int size) {
         return;
     }
     begins++;
-    stretch.begun = c, stretch.n = 0;
+    stretch.begun = c, stretch.n = 0, stretch.least = 0;
     memcpy(stretch.tables, night.bytes[TABLES], sizeof stretch.tables);
     len[TABLES] = 0; /* it has copied them */
     choose_set();
@@ -338,6 +340,8 @@ static void step_question(void) {
     if (code != due) fault("another answer than that of spoonripple_solve", code, due);
     else if (code == SPOONRIPPLE_DONE && memcmp(night.bytes[OUT], solved, out) != 0) fault("other symbols than those of spoonripple_solve", code, due);
     else if (code == SPOONRIPPLE_OPEN && told != shortfall[0]) fault("another shortfall than that of spoonripple_solve", code, due);
+    else if (code == SPOONRIPPLE_DONE && stretch.n < stretch.least) fault("solved before as many came as the shortfall said", code, due);
+    else if (code == SPOONRIPPLE_OPEN && stretch.n + told > stretch.least) stretch.least = stretch.n + told;
 }
 
 /* ---- Other content ---- */

@@ -75,6 +75,7 @@ int main(int argc, char **argv) {
     code = spoonripple_solve(SPOONRIPPLE_ROW(row), tables, 1024, count, t, esis, n, symbols, n * t,
                              rows, m * l, values, m * t, set, l * t, shortfall, 1);
     /* Words are no bytes of the object: they go to standard error. */
+    /* 'At least': fewer more do not solve it, whatever they bring (theorem not-before, docs/PROMISES.md). */
     if (code == SPOONRIPPLE_OPEN) return fprintf(stderr, "open, %u more independent packets at least\n", (unsigned)shortfall[0]), 1;
     if (code == SPOONRIPPLE_CONTRADICTION) return fputs("contradiction\n", stderr), 1;
     stop_at(code, "solve");

@@ -59,8 +59,8 @@ impl Station {
         if block.take(id.encoding_symbol_id, symbol).is_err() || (block.arrivals().esis.len() as u64) < self.wanted[at] {
             return;
         }
-        // Of a block that is solved or a contradiction this costs nothing; of an open one no fewer packets than the shortfall can do. Each packet was worked in
-        // as it came, so that an answer is there soon after the last one that was needed.
+        // Of a block that is solved or a contradiction this costs nothing; an open one is not solved by fewer packets more than the shortfall says (the theorem
+        // `not-before-later`). Each packet was worked in as it came, so that an answer is there soon after the last one that was needed.
         if let Verdict::Open { shortfall } = block.solve() {
             self.wanted[at] = block.arrivals().esis.len() as u64 + shortfall;
         }

@@ -16,7 +16,9 @@ pub enum Verdict {
     Contradiction,
     /// More than one set fits. The out store is as it was.
     Open {
-        /// How many independent rows are missing: at least so many more packets are needed.
+        /// How many independent rows are missing: at least so many more packets are needed, whatever they bring. **Asking again cannot help before so many more
+        /// were accepted:** until then it is not solved, as the theorem `not-before` of `docs/PROMISES.md` says. A packet lowers the number by one or leaves it
+        /// (`falls-by-one`), and its row, not its symbol, decides which (`row-alone`), unless it makes a contradiction, which can come at any time.
         shortfall: u64,
     },
 }
@@ -32,7 +34,7 @@ impl Verdict {
     }
 }
 
-/// In the words of the receiving program, with `solved` where it writes the block.
+/// In the words of the receiving program, with `solved` where it writes the block. 'At least' is a promise: the theorem `not-before` of `docs/PROMISES.md`.
 impl fmt::Display for Verdict {
     fn fmt(&self, f: &mut fmt::Formatter) -> fmt::Result {
         match self {
