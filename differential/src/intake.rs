@@ -5,9 +5,9 @@ use differential::Random;
 use differential::report::{Found, Report};
 
 mod content;
-mod memory;
-mod night;
-mod stretch;
+pub mod memory;
+pub mod night;
+pub mod stretch;
 use night::{ANSWERS, IN_LARGER, Night, QUESTIONS, REFUSED};
 
 pub fn run(count: u64, seed: u64) -> Found {

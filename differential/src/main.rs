@@ -2,6 +2,7 @@
 mod constraints;
 mod encoding;
 mod field;
+mod floor;
 mod headers;
 mod intake;
 mod matrix;
@@ -23,7 +24,7 @@ fn main() {
         eprintln!("usage: run AREA [COUNT] [SEED]");
         std::process::exit(2);
     };
-    let areas: [(&str, fn(u64, u64) -> Found); 9] = [
+    let areas: [(&str, fn(u64, u64) -> Found); 10] = [
         ("field", field::run),
         ("headers", headers::run),
         ("matrix", matrix::run),
@@ -32,6 +33,7 @@ fn main() {
         ("encoding", encoding::run),
         ("solver", solver::run),
         ("intake", intake::run),
+        ("floor", floor::run),
         ("receive", receive::run),
     ];
     let chosen: Vec<_> = areas.iter().filter(|(name, _)| area == name || area == "all").collect();

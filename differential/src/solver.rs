@@ -45,11 +45,16 @@ pub fn judged(row: Row, tables: &[u32], came: Arrived, fixed: &[Vec<u8>]) -> (Ve
     (system::verdict(equations, l), [m, l, t])
 }
 
-/// A call of ours beside a verdict: whether it is the same in answer and memory, and what it left.
-pub fn beside(random: &mut Random, row: Row, tables: &[u32], came: Arrived, verdict: &Verdict) -> (bool, Stores) {
+/// A call of ours: what it answers, and the stores before and after.
+pub fn answered(random: &mut Random, row: Row, tables: &[u32], came: Arrived) -> (u32, [Stores; 2]) {
     let before = stores(random, row, came.count, came.t, came.esis.len());
     let mut lent = before.clone();
-    let code = archive::solve(rows::record(row), tables, came, &mut lent);
+    (archive::solve(rows::record(row), tables, came, &mut lent), [before, lent])
+}
+
+/// A call of ours beside a verdict: whether it is the same in answer and memory, and what it left.
+pub fn beside(random: &mut Random, row: Row, tables: &[u32], came: Arrived, verdict: &Verdict) -> (bool, Stores) {
+    let (code, [before, lent]) = answered(random, row, tables, came);
     let [l, m] = measures(row, came.count, came.esis.len());
     (as_told(verdict, code, &before, &lent, [m, l, came.t.into()]), lent)
 }
@@ -69,14 +74,14 @@ fn kind(verdict: &Verdict) -> &'static str {
     }
 }
 
-/// `n` of the packets, in any order.
-pub fn some(random: &mut Random, mut packets: Vec<EncodingPacket>, n: usize) -> Vec<EncodingPacket> {
+/// `n` of these, in any order.
+pub fn some<T>(random: &mut Random, mut all: Vec<T>, n: usize) -> Vec<T> {
     for i in 0..n {
-        let j = i + random.below((packets.len() - i) as u64) as usize;
-        packets.swap(i, j);
+        let j = i + random.below((all.len() - i) as u64) as usize;
+        all.swap(i, j);
     }
-    packets.truncate(n);
-    packets
+    all.truncate(n);
+    all
 }
 
 /// The row that the crate takes for a block of k source symbols.

@@ -115,6 +115,13 @@ fn reduce(equations: &mut [Vec<u8>], l: usize) -> Vec<usize> {
     pivots
 }
 
+/// Rows of l coefficients in reduced form, without those that become 0: as many as are independent.
+pub fn independent(mut rows: Vec<Vec<u8>>, l: usize) -> Vec<Vec<u8>> {
+    let rank = reduce(&mut rows, l).len();
+    rows.truncate(rank);
+    rows
+}
+
 /// The verdict on equations in l symbols.
 pub fn verdict(mut equations: Vec<Vec<u8>>, l: usize) -> Verdict {
     let rank = reduce(&mut equations, l).len();

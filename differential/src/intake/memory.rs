@@ -88,6 +88,16 @@ impl Begun {
         let Begun { l, m, t, .. } = self;
         [INTAKE_STATE, l, m * l, m * t, l * t, 1]
     }
+
+    /// Whether as many packets were accepted as the begin named.
+    pub fn full(self) -> bool {
+        self.came == self.most
+    }
+
+    /// From L or T of 2,049 on the intake and the solver have another frame.
+    pub fn larger(self) -> bool {
+        self.l.max(self.t) >= 2049
+    }
 }
 
 #[derive(Clone, Debug, PartialEq)]
@@ -95,6 +105,13 @@ pub enum Call {
     Begin { record: Record, tables: Vec<u32>, count: u32, t: u16, most: u32 },
     Packet { esi: u32, symbol: Vec<u8> },
     Question,
+}
+
+impl Call {
+    /// An ESI and its symbol come.
+    pub fn packet((esi, symbol): (u32, Vec<u8>)) -> Call {
+        Call::Packet { esi, symbol }
+    }
 }
 
 /// A call of a night, and how much it is lent.

@@ -56,10 +56,7 @@ pub fn any_block(random: &mut Random) -> Block {
     }
 }
 
-/// From L or T of this on the intake has another frame.
-const LARGER: usize = 2049;
-
-/// A block around that bound, or far above it: a made-up row of few source symbols and many LDPC rows, or long symbols.
+/// A block around the bound of the larger frame, or far above it: a made-up row of few source symbols and many LDPC rows, or long symbols.
 pub fn large_block(random: &mut Random) -> Block {
     let block = any_block(random);
     if random.below(2) == 0 {
@@ -201,11 +198,10 @@ impl Night {
         let Some(stretch) = &self.stretch else {
             return if random.below(3) == 0 { self.any_begin(random) } else { self.too_early(random) };
         };
-        let full = stretch.begun.came == stretch.begun.most;
-        if random.below(if full { self.odds.begins.min(8) } else { self.odds.begins }) == 0 {
+        if random.below(if stretch.begun.full() { self.odds.begins.min(8) } else { self.odds.begins }) == 0 {
             return self.any_begin(random);
         }
-        let call = if random.below(self.odds.questions) == 0 { Call::Question } else { stretch.packet(random) };
+        let call = if random.below(self.odds.questions) == 0 { Call::Question } else { Call::packet(stretch.packet(random)) };
         Step { call, room: enough(random, stretch.begun.needs(), self.memory.sizes()) }
     }
 
@@ -276,7 +272,7 @@ impl Night {
         let said = || format!("{verdict:?} after {:?}", self.steps);
         let [solved, contradictory, open] = ANSWERS;
         report.kind(QUESTIONS);
-        if stretch.begun.l >= LARGER || stretch.begun.t >= LARGER {
+        if stretch.begun.larger() {
             report.kind(IN_LARGER);
         }
         report.kind(match verdict {

@@ -1,5 +1,5 @@
 //! What came since the last accepted begin, in the harness's own words: the equations of document 01, and the packets that a sender would send.
-use super::memory::{Begun, Call, Memory, WRITTEN};
+use super::memory::{Begun, Memory, WRITTEN};
 use crate::solver;
 use differential::archive::{self, Arrived, Row};
 use differential::system::{self, Verdict};
@@ -73,18 +73,23 @@ impl Stretch {
         }
     }
 
-    fn coefficients(&self, esi: u32) -> Vec<u8> {
+    pub fn coefficients(&self, esi: u32) -> Vec<u8> {
         system::sent(self.row, &self.tables, self.count, esi)
+    }
+
+    /// The symbol that the sender has for an ESI.
+    pub fn own(&self, esi: u32) -> Vec<u8> {
+        system::made(&self.coefficients(esi), &self.set, self.begun.t)
     }
 
     /// An ESI and its symbol.
     pub fn whole(&self, random: &mut Random) -> (u32, Vec<u8>) {
         let esi = self.any_esi(random);
-        (esi, system::made(&self.coefficients(esi), &self.set, self.begun.t))
+        (esi, self.own(esi))
     }
 
-    /// A packet, which may be damaged.
-    pub fn packet(&self, random: &mut Random) -> Call {
+    /// An ESI and its symbol, which may be damaged.
+    pub fn packet(&self, random: &mut Random) -> (u32, Vec<u8>) {
         let ((esi, mut symbol), t) = (self.whole(random), self.begun.t);
         match self.damage {
             0 => (),
@@ -92,7 +97,7 @@ impl Stretch {
             odds if random.below(odds) == 0 => symbol[telling::place(random, t)] ^= telling::other(random),
             _ => (),
         }
-        Call::Packet { esi, symbol }
+        (esi, symbol)
     }
 
     pub fn accept(&mut self, esi: u32, symbol: &[u8]) {
@@ -113,11 +118,15 @@ impl Stretch {
         came as usize == self.begun.came && held as usize <= self.begun.l && (1..=3).contains(&mark)
     }
 
+    /// The packets, as `solve` takes them.
+    pub fn came(&self) -> Arrived<'_> {
+        Arrived { count: self.count, t: self.begun.t as u16, esis: &self.esis, symbols: &self.symbols }
+    }
+
     /// What the harness makes of the equations, and whether `solve` says the same of the packets.
     pub fn verdict(&self, random: &mut Random) -> (Verdict, bool) {
         let verdict = system::verdict(self.equations.clone(), self.begun.l);
-        let came = Arrived { count: self.count, t: self.begun.t as u16, esis: &self.esis, symbols: &self.symbols };
-        let (same, _) = solver::beside(random, self.row, &self.tables, came, &verdict);
+        let (same, _) = solver::beside(random, self.row, &self.tables, self.came(), &verdict);
         (verdict, same)
     }
 
