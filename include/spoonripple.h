@@ -444,8 +444,8 @@ uint32_t spoonripple_intake_packet(uint32_t esi, const uint8_t *symbol, size_t s
  * them, SPOONRIPPLE_DONE, SPOONRIPPLE_CONTRADICTION or SPOONRIPPLE_OPEN. Packets may go on after it, and a question may follow a
  * question. The first one takes the LDPC, HDPC and padding rows in, which takes about as long as spoonripple_solve on these packets,
  * and each packet after that costs more: it is worth asking once count packets were accepted. After SPOONRIPPLE_OPEN asking again
- * cannot help before as many more were accepted as the shortfall says: until then the answer is SPOONRIPPLE_OPEN or
- * SPOONRIPPLE_CONTRADICTION (theorem not-before-later, docs/PROMISES.md). Packets that were refused do not count.
+ * cannot help before as many more were accepted as the shortfall says, unless a begin was accepted since: until then the answer is
+ * SPOONRIPPLE_OPEN or SPOONRIPPLE_CONTRADICTION (theorem not-before-later, docs/PROMISES.md). Packets that were refused do not count.
  * Refusals: 14 (not begun), 8 (rows below M * L octets, values below M * t octets, out below L * t octets), 8 (shortfall has no place).
  * Writes words 12 to 14 of state, the first L places of pivots, the first M * L octets of rows and M * t of values; the first L * t
  * octets of out only with SPOONRIPPLE_DONE, shortfall[0] only with SPOONRIPPLE_OPEN.

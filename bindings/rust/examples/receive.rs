@@ -60,7 +60,7 @@ impl Station {
             return;
         }
         // Of a block that is solved or a contradiction this costs nothing; an open one is not solved by fewer packets more than the shortfall says (the theorem
-        // `not-before-later`). Each packet was worked in as it came, so that an answer is there soon after the last one that was needed.
+        // `not-before`). Each packet was worked in as it came, so that an answer is there soon after the last one that was needed.
         if let Verdict::Open { shortfall } = block.solve() {
             self.wanted[at] = block.arrivals().esis.len() as u64 + shortfall;
         }

@@ -139,8 +139,8 @@ impl<'a> Block<'a> {
 
     /// Decides over all that came. What [`verdict`](Block::verdict) knows it gives at once. Else the packets are worked in already, and the first call works the
     /// LDPC, HDPC and padding rows in too, after which each packet costs more; so it is not worth a call before K packets are kept (`fewer-never-solved`). After
-    /// [`Verdict::Open`] asking again cannot help before as many more are kept as its shortfall says (`not-before-later`): until then it is open or a
-    /// contradiction, never solved. What came before with the same octets is not kept again, and does not count.
+    /// [`Verdict::Open`] asking again cannot help before as many more are kept as its shortfall says (`not-before`, of the solver on what is kept): until then it
+    /// is open or a contradiction, never solved. What came before with the same octets is not kept again, and does not count.
     pub fn solve(&mut self) -> Verdict {
         if let Some(known) = self.verdict {
             return known;

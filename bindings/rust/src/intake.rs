@@ -187,8 +187,8 @@ impl Intake {
 
     /// Decides over all packets that were accepted. The first question works the LDPC, HDPC and padding rows in, and each packet after it costs more: it is
     /// worth asking once K packets were accepted (`fewer-never-solved`). After [`Verdict::Open`] asking again cannot help before as many more were accepted as
-    /// its shortfall says (`not-before-later`): until then it is open or a contradiction, never solved. Packets that were refused do not count. What
-    /// [`verdict`](Intake::verdict) knows costs nothing.
+    /// its shortfall says, unless it was begun anew (`not-before-later`): until then it is open or a contradiction, never solved. Packets that were refused do
+    /// not count. What [`verdict`](Intake::verdict) knows costs nothing.
     pub fn question(&mut self) -> Verdict {
         if let Some(known) = self.verdict {
             return known;

@@ -127,6 +127,12 @@ fn asking_before_so_many_were_accepted_cannot_help() {
         took(&mut intake, sender.packets([esi]));
     }
     assert_eq!((intake.question(), intake.source()), (Verdict::Solved, Some(sender.data)));
+    // A begin ends the floor: what was open is forgotten, and another block may take fewer packets.
+    intake.begin_anew(Row::published(20).unwrap(), Tables::published(), 20, 3, 60).unwrap();
+    assert_eq!(intake.question(), Verdict::Open { shortfall: 20 });
+    intake.begin_anew(Row::published(1).unwrap(), Tables::published(), 1, 3, 60).unwrap();
+    intake.packet(0, &[1, 2, 3]).unwrap();
+    assert_eq!((intake.question(), intake.accepted()), (Verdict::Solved, 1));
 }
 
 /// For a row that is new every symbol fits and the number falls; for one that is not, one symbol fits and the number stays.
