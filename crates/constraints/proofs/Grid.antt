@@ -1,4 +1,4 @@
--- A grid of rows in a store, filled column by column from the right, is memory that was written.
+-- A grid of rows in a store, and a row by itself, filled column by column from the right, is memory that was written.
 -- Assumes nothing.
 use mathlib.Core.Path.{_≡_, refl, sym, ap, _∙_, subst}
 use mathlib.Core.List.{List}
@@ -10,7 +10,7 @@ use lib.Arith.{digits-lt, digits-mod}
 use lib.ListN.{length, getD, set, length-set}
 use lib.Seq.{getD-set-same, getD-set-other}
 use Rattle.field.specs.Runs.{Written}
-use Rattle.constraints.specs.Grid.{cells, GridRoom, Column, FilledFrom}
+use Rattle.constraints.specs.Grid.{cells, GridRoom, Column, FilledFrom, RowFrom}
 
 -- the places of one column
 pub inside : {xs : List ℕ} {at h l c : ℕ} → GridRoom xs at h l c → (i : ℕ) → i < h → at + i * l + c < length xs
@@ -84,3 +84,28 @@ filled-all {g} {xs} {ys} {at} {h} {l} {c} w e p = record { size = w .size; part 
         let r : k / l < h = div-lt-iff-lt-mul {k = l} {x = k} {y = h} p .1 b in
         let i : at + k ≡ at + k / l * l + k % l = omega (arith, div-add-mod' k l) in
         ap (λ (x : ℕ). getD ys x 0) i ∙ w .part (k / l) (k % l) r (mod-lt k p) (omega arith)
+
+-- ---- a row by itself
+
+pub row-none : (g : ℕ → ℕ) (xs : List ℕ) (at l : ℕ) → RowFrom g xs xs at l l
+row-none g xs at l = record { size = refl; part = λ q h a. absurd (omega arith); low = λ k h. refl; high = λ k h. refl }
+
+-- the column before it, which now holds v
+pub row-more : {g : ℕ → ℕ} {xs ys : List ℕ} {at l c d v : ℕ} → RowFrom g xs ys at l d → d ≡ c + 1 → c < l → at + c < length xs → v ≡ g c
+    → RowFrom g xs (set ys (at + c) v) at l c
+row-more {g} {xs} {ys} {at} {l} {c} {d} {v} w e b i q =
+    record {
+      size = length-set ys (at + c) v ∙ w .size;
+      part = λ k h a. here k h a (decLt c k);
+      low = λ k h. getD-set-other ys (at + c) k v 0 (λ z. omega arith) ∙ w .low k h;
+      high = λ k h. getD-set-other ys (at + c) k v 0 (λ z. omega arith) ∙ w .high k h;
+    }
+  where
+    here : (k : ℕ) → k < l → c ≤ k → Dec (c < k) → getD (set ys (at + c) v) (at + k) 0 ≡ g k
+    here k h a (yes t) = getD-set-other ys (at + c) (at + k) v 0 (λ z. omega arith) ∙ w .part k h (omega arith)
+    here k h a (no t) =
+        let z : c ≡ k = omega arith in
+        subst (λ (x : ℕ). getD (set ys (at + c) v) (at + x) 0 ≡ g x) z (getD-set-same ys (at + c) v 0 (omega (arith, w .size)) ∙ q)
+
+pub row-all : {g : ℕ → ℕ} {xs ys : List ℕ} {at l c : ℕ} → RowFrom g xs ys at l c → c ≡ 0 → Written g xs ys at l
+row-all w e = record { size = w .size; part = λ k h. w .part k h (omega arith); low = w .low; high = w .high }

@@ -50,7 +50,7 @@ module _ (m : ℕ → ℕ) (octets : (k : ℕ) → m k < 256) where
   product-more n j = sum-last n (λ k. times (m k) (gamma k j))
 
   -- GAMMA has nothing above its diagonal
-  product-high : (n j : ℕ) → n ≤ j → product n j ≡ 0
+  pub product-high : (n j : ℕ) → n ≤ j → product n j ≡ 0
   product-high n j h = sum-zero n (λ k b. ap (times (m k)) (gamma-high k j (omega arith)) ∙ times-zero (m k))
 
   right-comm : (a b c : ℕ) → plus (plus a b) c ≡ plus (plus a c) b
@@ -112,15 +112,15 @@ two i a b n = go (ℕ-discrete i a) (ℕ-discrete i b)
     go (no p) (yes q) = rw (ne-eqb i a p, eq-eqb i b q, unit-other i a p, unit-same i b q)
     go (no p) (no q) = rw (ne-eqb i a p, ne-eqb i b q, unit-other i a p, unit-other i b q)
 
-mt-ones : (v : List ℕ) (n h i j : ℕ) → 2 ≤ h → j + 1 < n → mt v n h i j ≡ plus (unit i (first v h j)) (unit i (second v h j))
+pub mt-ones : (v : List ℕ) (n h i j : ℕ) → 2 ≤ h → j + 1 < n → mt v n h i j ≡ plus (unit i (first v h j)) (unit i (second v h j))
 unfolding mt
 mt-ones v n h i j p b = rw (lt-ltb j (n - 1) (omega arith)) (two i (first v h j) (second v h j) (differ v h j p))
 
-mt-last : (v : List ℕ) (n h i j : ℕ) → n ≡ j + 1 → mt v n h i j ≡ power i
+pub mt-last : (v : List ℕ) (n h i j : ℕ) → n ≡ j + 1 → mt v n h i j ≡ power i
 unfolding mt
 mt-last v n h i j e = rw (le-ltb j (n - 1) (omega arith))
 
-mt-lt : (v : List ℕ) (n h i k : ℕ) → mt v n h i k < 256
+pub mt-lt : (v : List ℕ) (n h i k : ℕ) → mt v n h i k < 256
 unfolding mt
 mt-lt v n h i k =
     pick-lt (ltb k (n - 1)) (pick-lt (either (eqb i (first v h k)) (eqb i (second v h k))) (omega arith) (omega arith)) (power-lt i)
@@ -152,3 +152,34 @@ next-is v n h c {xs} {ys} {at} {l} {d} {r} {a} {b} w e p q m hr ea eb =
     let x : getD ys (at + r * l + c + 1) 0 ≡ hdpc v n h r (c + 1) =
     ap (λ (k : ℕ). getD ys k 0) (add-assoc (at + r * l) c 1) ∙ w .part r (c + 1) hr (omega arith) (omega arith) in
     ap₂ plus (ap₂ (λ (y z : ℕ). plus (doubled y) z) x (ap (unit r) ea)) (ap (unit r) eb) ∙ sym (hdpc-next v n h r c p (omega arith))
+
+-- ---- one row
+
+unit-comm : (i j : ℕ) → unit i j ≡ unit j i
+unit-comm i j = go (ℕ-discrete i j)
+  where
+    go : Dec (i ≡ j) → unit i j ≡ unit j i
+    go (yes e) = unit-same i j e ∙ sym (unit-same j i (sym e))
+    go (no n) = unit-other i j n ∙ sym (unit-other j i (λ e. n (sym e)))
+
+-- the identity, behind the n columns of GAMMA
+pub hdpc-identity : (v : List ℕ) (n h i k : ℕ) → unit k i ≡ hdpc v n h i (n + k)
+hdpc-identity v n h i k =
+    let e : k ≡ n + k - n = omega arith in
+    unit-comm k i ∙ ap (unit i) e ∙ sym (hdpc-unit v n h i (n + k) (omega arith))
+
+-- row i of MT with column c of GAMMA, and 0 past the last
+abbrev pub turned : List ℕ → ℕ → ℕ → ℕ → ℕ → ℕ
+turned v n h i c = product (mt v n h i) (mt-lt v n h i) n c
+
+pub turned-last : (v : List ℕ) (n h i : ℕ) → 0 ≡ turned v n h i n
+turned-last v n h i = sym (product-high (mt v n h i) (mt-lt v n h i) n n (omega arith))
+
+-- what the code makes of the column to the right
+pub turned-next : (v : List ℕ) (n h i c : ℕ) {d x y z : ℕ} → d ≡ c + 1 → c < n → x ≡ turned v n h i d → y ≡ doubled x
+    → z ≡ mt v n h i c → plus y z ≡ turned v n h i c
+turned-next v n h i c e b p q r =
+    ap₂ plus (q ∙ ap doubled (p ∙ ap (turned v n h i) e)) r ∙ sym (product-next (mt v n h i) (mt-lt v n h i) n c b)
+
+pub turned-is : (v : List ℕ) (n h i c : ℕ) → c < n → turned v n h i c ≡ hdpc v n h i c
+turned-is v n h i c b = sym (left v n h i c b)

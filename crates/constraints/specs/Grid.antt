@@ -26,3 +26,10 @@ pub record FilledFrom (g : ℕ → ℕ → ℕ) (xs ys : List ℕ) (at h l c : �
   pub part : (r q : ℕ) → r < h → q < l → c ≤ q → getD ys (at + r * l + q) 0 ≡ g r q
   pub low : (k : ℕ) → k < at → getD ys k 0 ≡ getD xs k 0
   pub high : (k : ℕ) → at + h * l ≤ k → getD ys k 0 ≡ getD xs k 0
+
+-- ys has g in one row from column c on, and what xs has before and past the row
+pub record RowFrom (g : ℕ → ℕ) (xs ys : List ℕ) (at l c : ℕ) : Type 0 where
+  pub size : length ys ≡ length xs
+  pub part : (q : ℕ) → q < l → c ≤ q → getD ys (at + q) 0 ≡ g q
+  pub low : (k : ℕ) → k < at → getD ys k 0 ≡ getD xs k 0
+  pub high : (k : ℕ) → at + l ≤ k → getD ys k 0 ≡ getD xs k 0

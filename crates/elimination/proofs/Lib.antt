@@ -4,5 +4,6 @@ pub mod Steps
 pub mod Buffers
 pub mod Joining
 pub mod Settling
+pub mod Units
 pub mod Solving
 pub mod Once

@@ -3,4 +3,5 @@ pub mod Verdict
 pub mod Steps
 pub mod Taking
 pub mod Settling
+pub mod Reducing
 pub mod Solving

@@ -20,7 +20,7 @@ use Rattle.elimination.specs.declared.verdict.Verdict.the-variants.{Contradicti
 use Rattle.solver.specs.System.{hdpcRows}
 use Rattle.solver.proofs.Groups.{octets-blank, octet-symbols}
 use Rattle.intake.specs.Taking.{Says, Placed}
-use Rattle.intake.specs.State.{Begun, tIn, lIn, mIn}
+use Rattle.intake.specs.State.{Begun, tIn, lIn}
 use Rattle.intake.specs.Night.{Stretch, Named, Sent, Completes, AnswersHeld, systemIn}
 use Rattle.intake.proofs.Packets.{pivots-for}
 use Rattle.intake.proofs.Steps.{held-lent}
@@ -45,10 +45,13 @@ module _ {st ps a d st₁ ps₁ a₁ d₁ : List ℕ} {q : Progress} (u : Comple
 
   module _ (l r : ℕ) (is : l ≡ lIn st) (e : q ≡ Held r) where
     -- the held rows stand in the stores
-    pub settle-ready : Begun st ps → StoresRoom (mIn st) (lIn st) (tIn st) a d → Lent l (tIn st) r ps₁ a₁ d₁
+    pub settle-ready : Begun st ps → StoresRoom (lIn st) (lIn st) (tIn st) a d → Lent l (tIn st) r ps₁ a₁ d₁
     settle-ready b room =
-        rw is (held-lent (room-kept room (u .within .rows .size) (u .within .symbols .size)) (pivots-kept (pivots-for b) (u .within .pivots .size))
-        (subst (Placed (lIn st) (mIn st) ps₁) e (u .placed)))
+        rw is (held-lent (record {
+          room = room-kept room (u .within .rows .size) (u .within .symbols .size);
+          pivots = pivots-kept (pivots-for b) (u .within .pivots .size);
+          placed = subst (Placed (lIn st) ps₁) e (u .placed);
+        }))
 
     pub answers-held : (o o₁ : List ℕ) (v : Verdict) → 0 < tIn st → Settles l (tIn st) r ps₁ a₁ d₁ o o₁ → HeldVerdict l r v
         → AnswersHeld st ps a d o st₁ ps₁ a₁ d₁ o₁ v

@@ -23,55 +23,51 @@ use Rattle.linear.specs.Bytes.{Bytes}
 use Rattle.linear.proofs.Elimination.{stepped-none}
 use Rattle.linear.proofs.Keeping.{holds-included}
 use Rattle.elimination.specs.Steps.{StoresRoom, column}
-use Rattle.solver.specs.System.{equations}
-use Rattle.intake.specs.State.{Begun, rowIn, kIn, tIn, mostIn, cameIn, lIn, mIn, tablesIn, front, words}
+use Rattle.intake.specs.State.{Begun, rowIn, tIn, lIn, tablesIn, front, words}
 use Rattle.intake.specs.Night.{Holding, Packet, Admitted, Unchanged, beginnable, takable, askable, storesRoom, fresh}
 
 -- ---- begin
 
-pub record Beginnable (r : Row) (tables k t most state pivots a d : ℕ) : Type 0 where
+pub record Beginnable (r : Row) (tables k t state pivots a d : ℕ) : Type 0 where
   pub rules : Obeys r
   pub all : tables ≡ 1024
   pub k-low : 1 ≤ k
   pub k-high : k ≤ r .kp
-  pub few : most ≤ 65535
   pub t-low : 1 ≤ t
-  pub rows : equations r k most * lOf r ≤ a
-  pub values : equations r k most * t ≤ d
-  pub long : 1039 ≤ state
+  pub rows : lOf r * lOf r ≤ a
+  pub values : lOf r * t ≤ d
+  pub long : 1037 ≤ state
   pub places : lOf r ≤ pivots
 
-pub begins-by : (r : Row) (tables k t most state pivots a d : ℕ) → beginnable r tables k t most state pivots a d ≡ given tt
-    → Beginnable r tables k t most state pivots a d
-begins-by r tables k t most state pivots a d e =
+pub begins-by : (r : Row) (tables k t state pivots a d : ℕ) → beginnable r tables k t state pivots a d ≡ given tt
+    → Beginnable r tables k t state pivots a d
+begins-by r tables k t state pivots a d e =
     let p1 = passed-row _ tt e in
     let p2 = passed (not (eqb tables 1024)) 5 _ tt (p1 .1) in
     let p3 = passed (ltb k 1) 9 _ tt (p2 .1) in
     let p4 = passed (ltb (r .kp) k) 9 _ tt (p3 .1) in
-    let p5 = passed (ltb 65535 most) 9 _ tt (p4 .1) in
-    let p6 = passed (eqb t 0) 10 _ tt (p5 .1) in
-    let p7 = passed (ltb a (equations r k most * lOf r)) 8 _ tt (p6 .1) in
-    let p8 = passed (ltb d (equations r k most * t)) 8 _ tt (p7 .1) in
-    let p9 = passed (ltb state 1039) 8 _ tt (p8 .1) in
+    let p6 = passed (eqb t 0) 10 _ tt (p4 .1) in
+    let p7 = passed (ltb a (lOf r * lOf r)) 8 _ tt (p6 .1) in
+    let p8 = passed (ltb d (lOf r * t)) 8 _ tt (p7 .1) in
+    let p9 = passed (ltb state 1037) 8 _ tt (p8 .1) in
     let p10 = passed (ltb pivots (lOf r)) 8 _ tt (p9 .1) in
     record {
       rules = p1 .0;
       all = eqb-true tables 1024 (not-false (eqb tables 1024) (p2 .0));
       k-low = ltb-false k 1 (p3 .0);
       k-high = ltb-false (r .kp) k (p4 .0);
-      few = ltb-false 65535 most (p5 .0);
       t-low = let q : t ≡ 0 → ⊥ = eqb-false t 0 (p6 .0) in omega arith;
-      rows = ltb-false a (equations r k most * lOf r) (p7 .0);
-      values = ltb-false d (equations r k most * t) (p8 .0);
-      long = ltb-false state 1039 (p9 .0);
+      rows = ltb-false a (lOf r * lOf r) (p7 .0);
+      values = ltb-false d (lOf r * t) (p8 .0);
+      long = ltb-false state 1037 (p9 .0);
       places = ltb-false pivots (lOf r) (p10 .0);
     }
 
 -- the words of a begin say that nothing came
-module _ (r : Row) (v : List ℕ) (k t most : ℕ) (st ps a d st₁ : List ℕ) (b : Beginnable r (length v) k t most (length st) (length ps) (length a) (length d))
-    (high : t ≤ 65535) (w : Written (λ i. getD (words r k t most v) i 0) st st₁ 0 1039) where
-  at : (i : ℕ) → i < 15 → getD st₁ (0 + i) 0 ≡ getD (front r k t most) i 0
-  at i h = w .part i (omega arith) ∙ List·getD-append (front r k t most) v 0 i (omega arith)
+module _ (r : Row) (v : List ℕ) (k t : ℕ) (st ps a d st₁ : List ℕ) (b : Beginnable r (length v) k t (length st) (length ps) (length a) (length d))
+    (high : t ≤ 65535) (w : Written (λ i. getD (words r k t v) i 0) st st₁ 0 1037) where
+  at : (i : ℕ) → i < 13 → getD st₁ (0 + i) 0 ≡ getD (front r k t) i 0
+  at i h = w .part i (omega arith) ∙ List·getD-append (front r k t) v 0 i (omega arith)
 
   long : length st₁ ≡ length st
   long = w .size
@@ -91,11 +87,11 @@ module _ (r : Row) (v : List ℕ) (k t most : ℕ) (st ps a d st₁ : List ℕ) 
 
   tables-are : tablesIn st₁ ≡ v
   tables-are = ext-getD 0 _ _ (size ∙ sym (b .all)) (λ i h. let l : i < 1024 = omega (arith, size) in
-      part-at st₁ 15 1024 i l ∙ ap (λ (x : ℕ). getD st₁ x 0) (sym (zero-add (15 + i))) ∙ w .part (15 + i) (omega arith) ∙ getD-append-add
-      (front r k t most) v i 0)
+      part-at st₁ 13 1024 i l ∙ ap (λ (x : ℕ). getD st₁ x 0) (sym (zero-add (13 + i))) ∙ w .part (13 + i) (omega arith) ∙ getD-append-add
+      (front r k t) v i 0)
     where
-      size : length (take 1024 (drop 15 st₁)) ≡ 1024
-      size = part-length st₁ 15 1024 (omega (arith, long, b .long))
+      size : length (take 1024 (drop 13 st₁)) ≡ 1024
+      size = part-length st₁ 13 1024 (omega (arith, long, b .long))
 
   fresh-begun : Begun st₁ ps
   fresh-begun = record {
@@ -107,20 +103,18 @@ module _ (r : Row) (v : List ℕ) (k t most : ℕ) (st ps a d st₁ : List ℕ) 
         k-high = omega (arith, at 9 (omega arith), at 0 (omega arith), b .k-high);
         t-low = omega (arith, at 10 (omega arith), b .t-low);
         t-high = omega (arith, at 10 (omega arith), high);
-        most-high = omega (arith, at 11 (omega arith), b .few);
-        came-high = omega (arith, at 12 (omega arith));
-        mark-low = omega (arith, at 14 (omega arith));
-        mark-high = omega (arith, at 14 (omega arith));
+        mark-low = omega (arith, at 12 (omega arith));
+        mark-high = omega (arith, at 12 (omega arith));
       };
     };
     places = omega (arith, ap lOf row-is, b .places);
-    placed = rw (at 14 (omega arith), at 13 (omega arith), at 12 (omega arith)) (omega arith, omega arith, λ i h. absurd (omega arith));
+    placed = rw (at 12 (omega arith), at 11 (omega arith)) (omega arith, λ i h. absurd (omega arith));
   }
 
-  m-is : mIn st₁ ≡ equations r k most
-  m-is = ap (λ (x : Row). equations x (kIn st₁) (mostIn st₁)) row-is ∙ ap₂ (equations r) (at 9 (omega arith)) (at 11 (omega arith))
+  l-is : lIn st₁ ≡ lOf r
+  l-is = ap lOf row-is
 
-  pub fresh-holds : Bytes a → Bytes d → Holding (fresh r v k t most) st₁ ps a d
+  pub fresh-holds : Bytes a → Bytes d → Holding (fresh r v k t) st₁ ps a d
   fresh-holds ba bd = record {
     begun = fresh-begun;
     named = record {
@@ -128,46 +122,40 @@ module _ (r : Row) (v : List ℕ) (k t most : ℕ) (st ps a d st₁ : List ℕ) 
       tables = tables-are;
       k = at 9 (omega arith);
       t = at 10 (omega arith);
-      most = at 11 (omega arith);
-      came = at 12
-          (omega arith);
     };
     sent = record { all = omega arith; ids = λ i h. absurd (omega arith); bytes = λ i. omega arith };
     room = record {
-      rows = subst (λ (x : ℕ). x ≤ length a) (sym (ap₂ _*_ m-is (ap lOf row-is))) (b .rows);
-      symbols = subst (λ (x : ℕ). x ≤ length d) (sym (ap₂ _*_ m-is (at 10 (omega arith)))) (b .values);
+      rows = subst (λ (x : ℕ). x ≤ length a) (sym (ap₂ _*_ l-is l-is)) (b .rows);
+      symbols = subst (λ (x : ℕ). x ≤ length d) (sym (ap₂ _*_ l-is (at 10 (omega arith)))) (b .values);
     };
-    says = rw (at 14 (omega arith), at 13 (omega arith))
+    says = rw (at 12 (omega arith), at 11 (omega arith))
         (stepped-none (lIn st₁) (column ps) ba bd, holds-included (λ i h. absurd (omega arith)) (λ i h. absurd (omega arith)));
   }
 
 -- ---- a packet
 
 -- the stores have room
-stores-passed : (m l t : ℕ) (a d : List ℕ) (o : Outcome (Unit {0})) → storesRoom m l t (length a) (length d) o ≡ given tt → StoresRoom m l t a d ×
-    (o ≡ given tt)
-stores-passed m l t a d o e =
-    let p = passed (ltb (length a) (m * l)) 8 _ tt e in
-    let q = passed (ltb (length d) (m * t)) 8 _ tt (p .1) in
-    (record { rows = ltb-false (length a) (m * l) (p .0); symbols = ltb-false (length d) (m * t) (q .0) }, q .1)
+stores-passed : (l t : ℕ) (a d : List ℕ) (o : Outcome (Unit {0})) → storesRoom l t (length a) (length d) o ≡ given tt → StoresRoom l l t a d × (o ≡ given tt)
+stores-passed l t a d o e =
+    let p = passed (ltb (length a) (l * l)) 8 _ tt e in
+    let q = passed (ltb (length d) (l * t)) 8 _ tt (p .1) in
+    (record { rows = ltb-false (length a) (l * l) (p .0); symbols = ltb-false (length d) (l * t) (q .0) }, q .1)
 
 pub packet-passed : (e : ℕ) (s st ps a d : List ℕ) → Begun st ps → takable st e (length s) (length a) (length d) ≡ given tt → Packet e s st ps a d
 packet-passed e s st ps a d b q =
     let p1 = passed (leb 16777216 e) 9 _ tt q in
-    let p2 = passed (leb (mostIn st) (cameIn st)) 9 _ tt (p1 .1) in
-    let p3 = passed (not (eqb (length s) (tIn st))) 10 _ tt (p2 .1) in
+    let p3 = passed (not (eqb (length s) (tIn st))) 10 _ tt (p1 .1) in
     record {
       begun = b;
       esi = let l = leb-false 16777216 e (p1 .0) in omega arith;
-      more = let l = leb-false (mostIn st) (cameIn st) (p2 .0) in omega arith;
       size = eqb-true (length s) (tIn st) (not-false (eqb (length s) (tIn st)) (p3 .0));
-      room = stores-passed (mIn st) (lIn st) (tIn st) a d (given tt) (p3 .1) .0;
+      room = stores-passed (lIn st) (tIn st) a d (given tt) (p3 .1) .0;
     }
 
 pub question-passed : (st a d o : List ℕ) → askable st (length a) (length d) (length o) ≡ given tt
-    → StoresRoom (mIn st) (lIn st) (tIn st) a d × (lIn st * tIn st ≤ length o)
+    → StoresRoom (lIn st) (lIn st) (tIn st) a d × (lIn st * tIn st ≤ length o)
 question-passed st a d o e =
-    let p = stores-passed (mIn st) (lIn st) (tIn st) a d _ e in
+    let p = stores-passed (lIn st) (tIn st) a d _ e in
     let q = passed (ltb (length o) (lIn st * tIn st)) 8 _ tt (p .1) in
     (p .0, ltb-false (length o) (lIn st * tIn st) (q .0))
 

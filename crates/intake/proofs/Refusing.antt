@@ -18,9 +18,8 @@ use Rattle.headers.specs.declared.row.Row.{Row}
 use Rattle.headers.proofs.Rules.{obeying, refused-disobeys}
 use Rattle.linear.specs.Rows.{RowCopied}
 use Rattle.elimination.specs.declared.beneath.solving.Progress.{Progress}
-use Rattle.solver.specs.System.{equations}
 use Rattle.intake.specs.Taking.{Placed}
-use Rattle.intake.specs.State.{Numbers, rowIn, kIn, tIn, mostIn, lIn, mIn, takenIn, progressIn}
+use Rattle.intake.specs.State.{Numbers, rowIn, tIn, lIn, progressIn}
 use Rattle.intake.specs.Night.{storesRoom}
 use Rattle.intake.proofs.Steps.{copied}
 
@@ -39,38 +38,35 @@ pub l-read : {r q : Row} → r ≡ q → Obeys q → r .l ≡ lOf q
 l-read e o = ap (λ (x : Row). x .l) e ∙ o .derived .l-fits
 
 -- the look at the pivots
-pub placed-told : (b : Bool) (st ps : List ℕ) {r : Row} {n : ℕ} {p : Progress} → Obeys (rowIn st) → r ≡ rowIn st → n ≡ takenIn st → p ≡ progressIn st
-    → Told b (Placed (r .l) n ps p) → Told b (Placed (lIn st) (takenIn st) ps (progressIn st))
-placed-told b st ps o e f g h = rw (l-read e o, f, g) at h
+pub placed-told : (b : Bool) (st ps : List ℕ) {r : Row} {p : Progress} → Obeys (rowIn st) → r ≡ rowIn st → p ≡ progressIn st
+    → Told b (Placed (r .l) ps p) → Told b (Placed (lIn st) ps (progressIn st))
+placed-told b st ps o e g h = rw (l-read e o, g) at h
 
 -- ---- room in the stores
 
 -- the numbers of a state are small enough for the products
-pub measurable : {st : List ℕ} {r : Row} {m : ℕ} → Numbers st → r ≡ rowIn st → m ≡ equations r (kIn st) (mostIn st)
-    → (m ≤ 131070) × (r .l ≤ 65535) × (tIn st ≤ 65535)
-measurable {st} n e f =
-    let few : mIn st ≤ 131070 = omega (arith, n .rules .l-high, n .counts .most-high) in
-    (rw (f, e) few, omega (arith, l-read e (n .rules), n .rules .l-high), n .counts .t-high)
+pub measurable : {st : List ℕ} → Numbers st → (getD st 5 0 ≤ 65535) × (tIn st ≤ 65535)
+measurable n = (omega (arith, n .rules .derived .l-fits, n .rules .l-high), n .counts .t-high)
 
--- what the measuring answers, by the row and the M that were worked out
-pub measured : {st : List ℕ} {r : Row} {m : ℕ} {x : Outcome (Unit {0})} (a d : ℕ) → Numbers st → r ≡ rowIn st → m ≡ equations r (kIn st) (mostIn st)
-    → x ≡ storesRoom m (r .l) (tIn st) a d (given tt) → x ≡ storesRoom (mIn st) (lIn st) (tIn st) a d (given tt)
-measured a d n e f x = rw (f, l-read e (n .rules), e) at x
+-- what the measuring answers, by the L that stands in the state
+pub measured : {st : List ℕ} {x : Outcome (Unit {0})} (a d : ℕ) → Numbers st → x ≡ storesRoom (getD st 5 0) (tIn st) a d (given tt)
+    → x ≡ storesRoom (lIn st) (tIn st) a d (given tt)
+measured a d n x = rw (n .rules .derived .l-fits) at x
 
 -- the stores are measured first, and then what follows is asked
-module _ (m l t a d : ℕ) (o : Outcome (Unit {0})) where
-  room-first : before (storesRoom m l t a d (given tt)) o ≡ storesRoom m l t a d o
-  room-first = go (ltb a (m * l)) (ltb d (m * t))
+module _ (l t a d : ℕ) (o : Outcome (Unit {0})) where
+  room-first : before (storesRoom l t a d (given tt)) o ≡ storesRoom l t a d o
+  room-first = go (ltb a (l * l)) (ltb d (l * t))
     where
       go : (p q : Bool) → before (unless p 8 (unless q 8 (given (tt {0})))) o ≡ unless p 8 (unless q 8 o)
       go true q = refl
       go false true = refl
       go false false = refl
 
-  pub room-passed : (x : Answer) → done x ≡ storesRoom m l t a d (given tt) → x ≡ Plains.Done → storesRoom m l t a d o ≡ o
+  pub room-passed : (x : Answer) → done x ≡ storesRoom l t a d (given tt) → x ≡ Plains.Done → storesRoom l t a d o ≡ o
   room-passed x q e = sym room-first ∙ went-on x q o e
 
-  pub room-stopped : (x : Answer) → done x ≡ storesRoom m l t a d (given tt) → (why : Refusal) → x ≡ Plains.Refused why → done x ≡ storesRoom m l t a d o
+  pub room-stopped : (x : Answer) → done x ≡ storesRoom l t a d (given tt) → (why : Refusal) → x ≡ Plains.Refused why → done x ≡ storesRoom l t a d o
   room-stopped x q why e = ap done e ∙ stopped x q o why e ∙ room-first
 
 -- ---- a packet's symbol

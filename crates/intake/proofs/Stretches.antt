@@ -4,7 +4,6 @@ use mathlib.Core.Path.{_≡_, refl, sym, ap, ap₂, _∙_, subst}
 use mathlib.Core.Bool.{Bool, true, false}
 use mathlib.Core.List.{List, [], _∷_, _++_}
 use Prim.Native.Nat.{ℕ, _+_, _-_, _*_, _≤_, _<_}
-use native.Mathlib.Nat.{mul-le-mul-right}
 use native.Mathlib.Decide.{decLt}
 use native.Mathlib.Omega.{arith}
 use borrow.Author.Tests.{eqb-true, ne-eqb}
@@ -18,38 +17,33 @@ use Rattle.headers.specs.Row.{Obeys, lOf}
 use Rattle.headers.specs.declared.row.Row.{Row}
 use Rattle.linear.specs.System.{System, joined}
 use Rattle.linear.specs.Bytes.{Bytes}
-use Rattle.linear.proofs.Elimination.{stepped-agree}
 use Rattle.linear.proofs.Growth.{contradiction-remains}
-use Rattle.linear.proofs.Keeping.{holds-agree}
-use Rattle.linear.proofs.Rows.{only-refl, only-more, only-trans, only-written}
+use Rattle.linear.proofs.Rows.{only-refl}
 use Rattle.elimination.specs.Steps.{StoresRoom}
 use Rattle.elimination.specs.declared.beneath.solving.Progress.{Progress}
 use Rattle.elimination.specs.declared.beneath.solving.Progress.the-variants.{Held, Clash}
-use Rattle.solver.specs.System.{fixed, equations, hdpcRows, sentRow, systemOf}
+use Rattle.solver.specs.System.{fixedWith, hdpcRows, sentRow}
 use Rattle.solver.proofs.Groups.{has-arrivals}
-use Rattle.intake.specs.Taking.{Says, Placed, Adds, Run, Laid, single, standing}
-use Rattle.intake.specs.State.{Begun, Counts, rowIn, kIn, tIn, mostIn, cameIn, heldIn, markIn, tablesIn, lIn, mIn, takenIn, progressIn}
+use Rattle.intake.specs.Taking.{Says, Placed, Adds, single}
+use Rattle.intake.specs.State.{Begun, Counts, rowIn, kIn, tIn, heldIn, markIn, tablesIn, lIn, progressIn}
 use Rattle.intake.specs.State.{heldBy, markBy, noted}
 use Rattle.intake.specs.Night.{Stretch, Holding, Named, Sent, Packet, Within, Completes, arrived, systemIn, takenOf}
 use Rattle.intake.proofs.Systems.{Alike, says-alike, alike-self, alike-then, alike-parts, packet-more, system-more, system-whole}
 
--- ---- the three words that change
+-- ---- the two words that change
 
 -- the others stay
-pub record Noted (st st₁ : List ℕ) (n : ℕ) (q : Progress) (m : ℕ) : Type 0 where
+pub record Noted (st st₁ : List ℕ) (q : Progress) (m : ℕ) : Type 0 where
   pub size : length st₁ ≡ length st
   pub row : rowIn st₁ ≡ rowIn st
   pub k : kIn st₁ ≡ kIn st
   pub t : tIn st₁ ≡ tIn st
-  pub most : mostIn st₁ ≡ mostIn st
   pub tables : tablesIn st₁ ≡ tablesIn st
-  pub came : cameIn st₁ ≡ n
   pub held : heldIn st₁ ≡ heldBy q
   pub mark : markIn st₁ ≡ markBy q m
 
-pub noting : (st st₁ : List ℕ) (came : ℕ) (q : Progress) (m : ℕ) → 1039 ≤ length st → Written (λ i. getD (noted came q m) i 0) st st₁ 12 3
-    → Noted st st₁ came q m
-noting st st₁ came q m long w = record {
+pub noting : (st st₁ : List ℕ) (q : Progress) (m : ℕ) → 1037 ≤ length st → Written (λ i. getD (noted q m) i 0) st st₁ 11 2 → Noted st st₁ q m
+noting st st₁ q m long w = record {
   size = w .size;
   row = rw (
     low 0 (omega arith),
@@ -64,21 +58,19 @@ noting st st₁ came q m long w = record {
   ) refl;
   k = low 9 (omega arith);
   t = low 10 (omega arith);
-  most = low 11 (omega arith);
   tables = same-tables;
-  came = w .part 0 (omega arith);
-  held = w .part 1 (omega arith);
-  mark = w .part 2 (omega arith);
+  held = w .part 0 (omega arith);
+  mark = w .part 1 (omega arith);
 }
   where
-    low : (i : ℕ) → i < 12 → getD st₁ i 0 ≡ getD st i 0
+    low : (i : ℕ) → i < 11 → getD st₁ i 0 ≡ getD st i 0
     low = w .low
 
-    same-tables : take 1024 (drop 15 st₁) ≡ take 1024 (drop 15 st)
+    same-tables : take 1024 (drop 13 st₁) ≡ take 1024 (drop 13 st)
     same-tables = ext-getD 0 _ _
-        (part-length st₁ 15 1024 (omega (arith, w .size)) ∙ sym (part-length st 15 1024 (omega arith)))
-        (λ i h. let l : i < 1024 = omega (arith, part-length st₁ 15 1024 (omega (arith, w .size))) in
-        part-at st₁ 15 1024 i l ∙ w .high (15 + i) (omega arith) ∙ sym (part-at st 15 1024 i l))
+        (part-length st₁ 13 1024 (omega (arith, w .size)) ∙ sym (part-length st 13 1024 (omega arith)))
+        (λ i h. let l : i < 1024 = omega (arith, part-length st₁ 13 1024 (omega (arith, w .size))) in
+        part-at st₁ 13 1024 i l ∙ w .high (13 + i) (omega arith) ∙ sym (part-at st 13 1024 i l))
 
 -- ---- where the elimination stands then
 
@@ -94,39 +86,23 @@ mark-bounds : (q : Progress) (m : ℕ) → 1 ≤ m → m ≤ 3 → (1 ≤ markBy
 mark-bounds (Held r) m a b = (a, b)
 mark-bounds Clash m a b = (omega arith, omega arith)
 
-pub placed-more : (L : ℕ) {n m : ℕ} (ps : List ℕ) (q : Progress) → n ≤ m → Placed L n ps q → Placed L m ps q
-placed-more L ps (Held r) h p = (omega (arith, p .0), p .1, p .2)
-placed-more L ps Clash h p = tt
-
-module _ (st st₁ : List ℕ) {came m : ℕ} (q : Progress) (n : Noted st st₁ came q m) where
+module _ (st st₁ : List ℕ) {m : ℕ} (q : Progress) (n : Noted st st₁ q m) where
   pub l-same : lIn st₁ ≡ lIn st
   l-same = ap lOf (n .row)
 
-  pub m-same : mIn st₁ ≡ mIn st
-  m-same =
-      ap (λ (r : Row). equations r (kIn st₁) (mostIn st₁)) (n .row)
-      ∙ ap₂ (λ (x y : ℕ). equations (rowIn st) x y) (n .k) (n .most)
-
-  taken-same : takenIn st₁ ≡ pick (eqb (markBy q m) 1) came (fixed (rowIn st) (kIn st) + came)
-  taken-same =
-      ap₂ (λ (x y : ℕ). pick (eqb x 1) y (fixed (rowIn st₁) (kIn st₁) + y)) (n .mark) (n .came)
-      ∙ ap (λ (r : Row). pick (eqb (markBy q m) 1) came (fixed r (kIn st₁) + came)) (n .row)
-      ∙ ap (λ (x : ℕ). pick (eqb (markBy q m) 1) came (fixed (rowIn st) x + came)) (n .k)
-
-  pub room-noted : {a d a₁ d₁ : List ℕ} → StoresRoom (mIn st) (lIn st) (tIn st) a d → length a₁ ≡ length a → length d₁ ≡ length d
-      → StoresRoom (mIn st₁) (lIn st₁) (tIn st₁) a₁ d₁
+  pub room-noted : {a d a₁ d₁ : List ℕ} → StoresRoom (lIn st) (lIn st) (tIn st) a d → length a₁ ≡ length a → length d₁ ≡ length d
+      → StoresRoom (lIn st₁) (lIn st₁) (tIn st₁) a₁ d₁
   room-noted {a₁ = a₁} {d₁ = d₁} r p o = record {
-    rows = subst (λ (x : ℕ). x ≤ length a₁) (sym (ap₂ _*_ m-same l-same)) (omega (arith, r .rows));
-    symbols = subst (λ (x : ℕ). x ≤ length d₁) (sym (ap₂ _*_ m-same (n .t))) (omega (arith, r .symbols));
+    rows = subst (λ (x : ℕ). x ≤ length a₁) (sym (ap₂ _*_ l-same l-same)) (omega (arith, r .rows));
+    symbols = subst (λ (x : ℕ). x ≤ length d₁) (sym (ap₂ _*_ l-same (n .t))) (omega (arith, r .symbols));
   }
 
   module _ (clash : m ≡ 3 → q ≡ Clash) where
     pub progress-noted : progressIn st₁ ≡ q
     progress-noted = ap₂ (λ (x y : ℕ). pick (eqb x 3) Clash (Held y)) (n .mark) (n .held) ∙ progress-by q m clash
 
-    pub begun-noted : (ps ps₁ : List ℕ) → Begun st ps → length ps₁ ≡ length ps → came ≤ mostIn st → 1 ≤ m → m ≤ 3
-        → Placed (lIn st) (pick (eqb (markBy q m) 1) came (fixed (rowIn st) (kIn st) + came)) ps₁ q → Begun st₁ ps₁
-    begun-noted ps ps₁ b long few low high p = record {
+    pub begun-noted : (ps ps₁ : List ℕ) → Begun st ps → length ps₁ ≡ length ps → 1 ≤ m → m ≤ 3 → Placed (lIn st) ps₁ q → Begun st₁ ps₁
+    begun-noted ps ps₁ b long low high p = record {
       numbers = record {
         size = omega (arith, n .size, b .numbers .size);
         rules = subst Obeys (sym (n .row)) (b .numbers .rules);
@@ -135,42 +111,28 @@ module _ (st st₁ : List ℕ) {came m : ℕ} (q : Progress) (n : Noted st st₁
           k-high = omega (arith, n .k, ap (λ (r : Row). r .kp) (n .row), o .k-high);
           t-low = omega (arith, n .t, o .t-low);
           t-high = omega (arith, n .t, o .t-high);
-          most-high = omega (arith, n .most, o .most-high);
-          came-high = omega (arith, n .came, n .most, few);
           mark-low = omega (arith, n .mark, bounds .0);
           mark-high = omega (arith, n .mark, bounds .1);
         };
       };
       places = omega (arith, l-same, b .places, long);
-      placed = subst (Placed (lIn st₁) (takenIn st₁) ps₁) (sym progress-noted)
-          (subst (λ (x : ℕ). Placed (lIn st₁) x ps₁ q) (sym taken-same) (subst (λ (x : ℕ). Placed x taken ps₁ q) (sym l-same) p));
+      placed = subst (Placed (lIn st₁) ps₁) (sym progress-noted) (subst (λ (x : ℕ). Placed x ps₁ q) (sym l-same) p);
     }
       where
-        o : Counts (rowIn st .kp) (kIn st) (tIn st) (mostIn st) (cameIn st) (markIn st)
+        o : Counts (rowIn st .kp) (kIn st) (tIn st) (markIn st)
         o = b .numbers .counts
 
         bounds : (1 ≤ markBy q m) × (markBy q m ≤ 3)
         bounds = mark-bounds q m low high
 
-        taken : ℕ
-        taken = pick (eqb (markBy q m) 1) came (fixed (rowIn st) (kIn st) + came)
-
 -- what is said in the words before is said in the words now
-pub says-words : (st st₁ : List ℕ) {came m : ℕ} (q : Progress) → Noted st st₁ came q m → (m ≡ 3 → q ≡ Clash) → (S : Bool → System ℕ) (ps a d : List ℕ)
+pub says-words : (st st₁ : List ℕ) {m : ℕ} (q : Progress) → Noted st st₁ q m → (m ≡ 3 → q ≡ Clash) → (S : Bool → System ℕ) (ps a d : List ℕ)
     → Says (lIn st) (tIn st) (S (eqb (markBy q m) 1)) ps a d q → Says (lIn st₁) (tIn st₁) (S (eqb (markIn st₁) 1)) ps a d (progressIn st₁)
 says-words st st₁ {m = m} q n clash S ps a d x =
     subst (Says (lIn st₁) (tIn st₁) (S (eqb (markIn st₁) 1)) ps a d) (sym (progress-noted st st₁ q n clash))
     (subst (λ (y : ℕ). Says (lIn st₁) (tIn st₁) (S (eqb y 1)) ps a d q) (sym (n .mark))
     (subst (λ (y : ℕ). Says (lIn st₁) y (S (eqb (markBy q m) 1)) ps a d q) (sym (n .t))
     (subst (λ (y : ℕ). Says y (tIn st) (S (eqb (markBy q m) 1)) ps a d q) (sym (l-same st st₁ q n)) x)))
-
--- what was taken is at most M, and one less where a packet may come
-pub taken-few : (st ps : List ℕ) → Begun st ps → takenIn st ≤ fixed (rowIn st) (kIn st) + cameIn st
-taken-few st ps b = go (eqb (markIn st) 1)
-  where
-    go : (c : Bool) → pick c (cameIn st) (fixed (rowIn st) (kIn st) + cameIn st) ≤ fixed (rowIn st) (kIn st) + cameIn st
-    go true = omega arith
-    go false = omega arith
 
 -- ---- a packet more
 
@@ -230,38 +192,33 @@ module _ (z : Stretch) (st : List ℕ) (e : ℕ) (s : List ℕ) (named : Named z
       contradiction-remains (has-arrivals (hdpcRows (y .tables) (y .row)) (y .row) (y .tables) (y .k) (y .t) (y .esis) (y .symbols) L T) x
   said L T ps a d false Clash m q x = x
 
-taken-next : (b : Bool) (n c : ℕ) → pick b c (n + c) + 1 ≡ pick b (c + 1) (n + (c + 1))
-taken-next true n c = refl
-taken-next false n c = omega arith
-
-placed-next : (L n c : ℕ) (ps : List ℕ) (q : Progress) (m : ℕ) → Placed L (pick (eqb m 1) c (n + c) + 1) ps q
-    → Placed L (pick (eqb (markBy q m) 1) (c + 1) (n + (c + 1))) ps q
-placed-next L n c ps (Held r) m p = subst (λ (x : ℕ). Placed L x ps (Held r)) (taken-next (eqb m 1) n c) p
-placed-next L n c ps Clash m p = tt
+-- a mark of 3 is a clash
+pub marked : (st : List ℕ) → markIn st ≡ 3 → progressIn st ≡ Clash
+marked st m = ap (λ (z : ℕ). pick (eqb z 3) Clash (Held (heldIn st))) m
 
 -- the packet that was taken, with its row and its symbol
 module _ (st ps a d st₁ ps₁ a₁ d₁ : List ℕ) (e : ℕ) (s : List ℕ) (q : Progress) (k : Packet e s st ps a d) (bytes : Bytes s)
-    (w : Written (λ i. getD (noted (cameIn st + 1) q (markIn st)) i 0) st st₁ 12 3) (clash : markIn st ≡ 3 → q ≡ Clash)
-    (adds : Adds (lIn st) (tIn st) (takenIn st) (sentRow (tablesIn st) (rowIn st) (kIn st) e) (λ b. getD s b 0) ps a d ps₁ a₁ d₁ (progressIn st) q) where
-  n : Noted st st₁ (cameIn st + 1) q (markIn st)
-  n = noting st st₁ (cameIn st + 1) q (markIn st) (k .begun .numbers .size) w
+    (w : Written (λ i. getD (noted q (markIn st)) i 0) st st₁ 11 2)
+    (adds : Adds (lIn st) (tIn st) (single (sentRow (tablesIn st) (rowIn st) (kIn st) e) (λ b. getD s b 0)) ps a d ps₁ a₁ d₁ (progressIn st) q) where
+  n : Noted st st₁ q (markIn st)
+  n = noting st st₁ q (markIn st) (k .begun .numbers .size) w
 
-  few : takenIn st + 1 ≤ mIn st
-  few = omega (arith, taken-few st ps (k .begun), k .more)
+  -- no packet clears the mark of a contradiction
+  clash : markIn st ≡ 3 → q ≡ Clash
+  clash m = adds .stays (marked st m)
 
   pub packet-within : Within st ps a d st₁ ps₁ a₁ d₁
   packet-within = record {
     state = record { size = w .size; part = λ i h. refl; low = w .low; high = w .high };
     pivots = adds .pivots;
-    rows = only-more (mul-le-mul-right (lIn st) few) (adds .rows);
-    symbols = only-more (mul-le-mul-right (tIn st) few) (adds .symbols);
+    rows = adds .rows;
+    symbols = adds .symbols;
   }
 
   packet-begun : Begun st₁ ps₁
   packet-begun =
       let o = k .begun .numbers .counts in
-      begun-noted st st₁ q n clash ps ps₁ (k .begun) (adds .pivots .size) (omega (arith, k .more)) (o .mark-low) (o .mark-high)
-      (placed-next (lIn st) (fixed (rowIn st) (kIn st)) (cameIn st) ps₁ q (markIn st) (adds .placed))
+      begun-noted st st₁ q n clash ps ps₁ (k .begun) (adds .pivots .size) (o .mark-low) (o .mark-high) (adds .placed)
 
   pub packet-holds : (z : Stretch) → Holding z st ps a d → Holding (arrived z e s) st₁ ps₁ a₁ d₁
   packet-holds z h = record {
@@ -271,8 +228,6 @@ module _ (st ps a d st₁ ps₁ a₁ d₁ : List ℕ) (e : ℕ) (s : List ℕ) (
       tables = n .tables ∙ h .named .tables;
       k = n .k ∙ h .named .k;
       t = n .t ∙ h .named .t;
-      most = n .most ∙ h .named .most;
-      came = omega (arith, n .came, h .named .came, length-append (z .esis) (e ∷ []));
     };
     sent = sent-more z e s (h .sent) (k .esi) (k .size ∙ h .named .t) bytes;
     room = room-noted st st₁ q n (k .room) (adds .rows .size) (adds .symbols .size);
@@ -286,75 +241,43 @@ module _ (st ps a d st₁ ps₁ a₁ d₁ : List ℕ) (e : ℕ) (s : List ℕ) (
 
 -- ---- the rows that are fixed
 
-fixed-as : {v v₁ : List ℕ} {r r₁ : Row} {k k₁ t t₁ : ℕ} → v ≡ v₁ → r ≡ r₁ → k ≡ k₁ → t ≡ t₁ → systemOf r v k t [] [] ≡ systemOf r₁ v₁ k₁ t₁ [] []
-fixed-as {v} {v₁} {r} {r₁} {k} {k₁} {t} p q o u =
-    ap (λ (x : List ℕ). systemOf r x k t [] []) p ∙ ap (λ (x : Row). systemOf x v₁ k t [] []) q
-    ∙ ap (λ (x : ℕ). systemOf r₁ v₁ x t [] []) o ∙ ap (λ (x : ℕ). systemOf r₁ v₁ k₁ x [] []) u
+fixed-as : {v v₁ : List ℕ} {r r₁ : Row} {k k₁ : ℕ} → v ≡ v₁ → r ≡ r₁ → k ≡ k₁ → fixedWith (hdpcRows v r) v r k ≡ fixedWith (hdpcRows v₁ r₁) v₁ r₁ k₁
+fixed-as {v} {v₁} {r} {r₁} {k} {k₁} p q o =
+    ap (λ (x : List ℕ). fixedWith (hdpcRows x r) x r k) p ∙ ap (λ (x : Row). fixedWith (hdpcRows v₁ x) v₁ x k) q
+    ∙ ap (λ (x : ℕ). fixedWith (hdpcRows v₁ r₁) v₁ r₁ x) o
 
--- the held rows stand in front of what was laid
-says-laid : {L T from n : ℕ} {R S : System ℕ} (ps a d a₁ d₁ : List ℕ) → Laid L T from n R a d a₁ d₁ → Bytes a₁ → Bytes d₁
-    → Says L T S ps a d (Held from) → Says L T S ps a₁ d₁ (Held from)
-says-laid {L} {T} {from} ps a d a₁ d₁ laid ba bd h = (
-  stepped-agree (λ i l c b. laid .rows .low (i * L + c) (omega (arith, mul-le-mul-right L l))) ba bd (h .0),
-  holds-agree (λ i l c b. laid .rows .low (i * L + c) (omega (arith, mul-le-mul-right L l)))
-      (λ i l t b. laid .symbols .low (i * T + t) (omega (arith, mul-le-mul-right T l))) (h .1),
-)
+module _ (st ps a d st₁ ps₁ a₁ d₁ : List ℕ) (q : Progress) (b : Begun st ps) (first : markIn st ≡ 1)
+    (room : StoresRoom (lIn st) (lIn st) (tIn st) a d)
+    (adds : Adds (lIn st) (tIn st) (fixedWith (hdpcRows (tablesIn st) (rowIn st)) (tablesIn st) (rowIn st) (kIn st)) ps a d ps₁ a₁ d₁ (progressIn st) q)
+    (w : Written (λ i. getD (noted q 2) i 0) st st₁ 11 2) where
+  note : Noted st st₁ q 2
+  note = noting st st₁ q 2 (b .numbers .size) w
 
-module _ (st ps a d a₁ d₁ st₁ ps₁ a₂ d₂ : List ℕ) (q : Progress) (b : Begun st ps) (first : markIn st ≡ 1)
-    (room : StoresRoom (mIn st) (lIn st) (tIn st) a d)
-    (laid : Laid (lIn st) (tIn st) (heldIn st) (fixed (rowIn st) (kIn st)) (systemOf (rowIn st) (tablesIn st) (kIn st) (tIn st) [] []) a d a₁ d₁)
-    (run : Run (lIn st) (tIn st) (heldIn st) (fixed (rowIn st) (kIn st)) ps a₁ d₁ ps₁ a₂ d₂ q) (ba : Bytes a₁) (bd : Bytes d₁)
-    (w : Written (λ i. getD (noted (cameIn st) q 2) i 0) st st₁ 12 3) where
-  note : Noted st st₁ (cameIn st) q 2
-  note = noting st st₁ (cameIn st) q 2 (b .numbers .size) w
-
-  progress-first : progressIn st ≡ Held (heldIn st)
-  progress-first = ap (λ (x : ℕ). pick (eqb x 3) Clash (Held (heldIn st))) first
-
-  taken-first : takenIn st ≡ cameIn st
-  taken-first = ap (λ (x : ℕ). pick (eqb x 1) (cameIn st) (fixed (rowIn st) (kIn st) + cameIn st)) first
-
-  placed-first : Placed (lIn st) (takenIn st) ps (Held (heldIn st))
-  placed-first = subst (Placed (lIn st) (takenIn st) ps) progress-first (b .placed)
-
-  held-few : heldIn st ≤ cameIn st
-  held-few = omega (arith, placed-first .0, taken-first)
-
-  run-few : heldIn st + fixed (rowIn st) (kIn st) ≤ mIn st
-  run-few = omega (arith, held-few, b .numbers .counts .came-high)
-
-  whole : (z : Stretch) → Holding z st ps a d → Says (lIn st) (tIn st) (systemIn z) ps₁ a₂ d₂ q
-  whole z h = says-alike ps₁ a₂ d₂ q (system-whole (lIn st) (tIn st) (z .tables) (z .row) (z .k) (z .t) (z .esis) (z .symbols) own)
-      (run .says (takenOf z true) (says-laid ps a d a₁ d₁ laid ba bd early))
+  whole : (z : Stretch) → Holding z st ps a d → Says (lIn st) (tIn st) (systemIn z) ps₁ a₁ d₁ q
+  whole z h = says-alike ps₁ a₁ d₁ q (system-whole (lIn st) (tIn st) (z .tables) (z .row) (z .k) (z .t) (z .esis) (z .symbols) own)
+      (adds .says (takenOf z true) early)
     where
-      early : Says (lIn st) (tIn st) (takenOf z true) ps a d (Held (heldIn st))
-      early = subst (Says (lIn st) (tIn st) (takenOf z true) ps a d) progress-first
-          (subst (λ (x : ℕ). Says (lIn st) (tIn st) (takenOf z (eqb x 1)) ps a d (progressIn st)) first (h .says))
+      early : Says (lIn st) (tIn st) (takenOf z true) ps a d (progressIn st)
+      early = subst (λ (x : ℕ). Says (lIn st) (tIn st) (takenOf z (eqb x 1)) ps a d (progressIn st)) first (h .says)
 
-      own : Alike (lIn st) (tIn st) (systemOf (z .row) (z .tables) (z .k) (z .t) [] [])
-          (standing (lIn st) (tIn st) (heldIn st) (fixed (rowIn st) (kIn st)) a₁ d₁)
-      own = subst (λ (x : System ℕ). Alike (lIn st) (tIn st) x (standing (lIn st) (tIn st) (heldIn st) (fixed (rowIn st) (kIn st)) a₁ d₁))
-          (fixed-as (h .named .tables) (h .named .row) (h .named .k) (h .named .t)) (record { to = laid .to; back = laid .back })
+      own : Alike (lIn st) (tIn st) (fixedWith (hdpcRows (tablesIn st) (rowIn st)) (tablesIn st) (rowIn st) (kIn st))
+          (fixedWith (hdpcRows (z .tables) (z .row)) (z .tables) (z .row) (z .k))
+      own = subst (λ (x : System ℕ). Alike (lIn st) (tIn st) (fixedWith (hdpcRows (tablesIn st) (rowIn st)) (tablesIn st) (rowIn st) (kIn st)) x)
+          (fixed-as (h .named .tables) (h .named .row) (h .named .k)) (alike-self _)
 
   -- with them the mark is 2, or 3
-  by-mark : (z : Stretch) (p : Progress) → Says (lIn st) (tIn st) (systemIn z) ps₁ a₂ d₂ p
-      → Says (lIn st) (tIn st) (takenOf z (eqb (markBy p 2) 1)) ps₁ a₂ d₂ p
+  by-mark : (z : Stretch) (p : Progress) → Says (lIn st) (tIn st) (systemIn z) ps₁ a₁ d₁ p
+      → Says (lIn st) (tIn st) (takenOf z (eqb (markBy p 2) 1)) ps₁ a₁ d₁ p
   by-mark z (Held r) x = x
   by-mark z Clash x = x
-
-  placed-late : (p : Progress) → Placed (lIn st) (heldIn st + fixed (rowIn st) (kIn st)) ps₁ p
-      → Placed (lIn st) (pick (eqb (markBy p 2) 1) (cameIn st) (fixed (rowIn st) (kIn st) + cameIn st)) ps₁ p
-  placed-late (Held r) p = (omega (arith, p .0, held-few), p .1, p .2)
-  placed-late Clash p = tt
 
   late : _≡_ {A = ℕ} 2 3 → q ≡ Clash
   late e = absurd (omega (arith, e))
 
   complete-begun : Begun st₁ ps₁
-  complete-begun =
-      begun-noted st st₁ q note late ps ps₁ b (run .pivots .size) (b .numbers .counts .came-high) (omega arith) (omega arith) (placed-late q (run .placed))
+  complete-begun = begun-noted st st₁ q note late ps ps₁ b (adds .pivots .size) (omega arith) (omega arith) (adds .placed)
 
-  complete-holds : (z : Stretch) → Holding z st ps a d → Holding z st₁ ps₁ a₂ d₂
+  complete-holds : (z : Stretch) → Holding z st ps a d → Holding z st₁ ps₁ a₁ d₁
   complete-holds z h = record {
     begun = complete-begun;
     named = record {
@@ -362,28 +285,23 @@ module _ (st ps a d a₁ d₁ st₁ ps₁ a₂ d₂ : List ℕ) (q : Progress) (
       tables = note .tables ∙ h .named .tables;
       k = note .k ∙ h .named .k;
       t = note .t ∙ h .named .t;
-      most = note .most ∙ h .named .most;
-      came = note .came ∙ h .named .came;
     };
     sent = h .sent;
-    room = room-noted st st₁ q note room (run .rows .size ∙ laid .rows .size) (run .symbols .size ∙ laid .symbols .size);
-    says = says-words st st₁ q note late (takenOf z) ps₁ a₂ d₂ (by-mark z q (whole z h));
+    room = room-noted st st₁ q note room (adds .rows .size) (adds .symbols .size);
+    says = says-words st st₁ q note late (takenOf z) ps₁ a₁ d₁ (by-mark z q (whole z h));
   }
 
-  pub completes : Completes st ps a d st₁ ps₁ a₂ d₂ q
+  pub completes : Completes st ps a d st₁ ps₁ a₁ d₁ q
   completes = record {
     within = record {
       state = record { size = w .size; part = λ i h. refl; low = w .low; high = w .high };
-      pivots = run .pivots;
-      rows = only-trans (only-written (inside (lIn st)) (laid .rows)) (only-more (mul-le-mul-right (lIn st) run-few) (run .rows));
-      symbols = only-trans (only-written (inside (tIn st)) (laid .symbols)) (only-more (mul-le-mul-right (tIn st) run-few) (run .symbols));
+      pivots = adds .pivots;
+      rows = adds .rows;
+      symbols = adds .symbols;
     };
-    placed = placed-more (lIn st) ps₁ q run-few (run .placed);
+    placed = adds .placed;
     holds = λ z h. (complete-holds z h, whole z h);
   }
-    where
-      inside : (x : ℕ) → heldIn st * x + fixed (rowIn st) (kIn st) * x ≤ mIn st * x
-      inside x = omega (arith, mul-le-mul-right x run-few)
 
 -- ---- where they are taken already
 
@@ -395,6 +313,6 @@ completes-now st ps a d b late = record {
     rows = only-refl;
     symbols = only-refl;
   };
-  placed = placed-more (lIn st) ps (progressIn st) (omega (arith, taken-few st ps b, b .numbers .counts .came-high)) (b .placed);
+  placed = b .placed;
   holds = λ z h. (h, subst (λ (x : Bool). Says (lIn st) (tIn st) (takenOf z x) ps a d (progressIn st)) (ne-eqb (markIn st) 1 late) (h .says));
 }

@@ -1,7 +1,7 @@
 -- The systems that an intake goes through: what the stores say does not depend on the order of the equations, a packet adds one, and the rows that row,
 -- tables and K fix complete the solver's system.
 -- Assumes nothing.
-use mathlib.Core.Path.{_≡_, refl, sym, ap, _∙_}
+use mathlib.Core.Path.{_≡_, sym, ap, _∙_}
 use mathlib.Core.List.{List, [], _∷_, _++_}
 use Prim.Native.Nat.{ℕ, _+_, _*_, _<_}
 use native.Mathlib.Decide.{decLt}
@@ -11,7 +11,6 @@ use lib.Seq.{getD-append-seam, getD-append-add}
 use Rattle.headers.specs.declared.row.Row.{Row}
 use Rattle.linear.specs.System.{System, SameEquation, OneOf, Included, joined}
 use Rattle.linear.specs.Octets.{octets}
-use Rattle.linear.specs.Bytes.{cell}
 use Rattle.linear.specs.Elimination.{Holds}
 use Rattle.linear.proofs.Bytes.{cell-lt}
 use Rattle.linear.proofs.Growth.{included-octets, same-contradiction}
@@ -22,7 +21,7 @@ use Rattle.linear.proofs.System.{follows-included}
 use Rattle.elimination.specs.declared.beneath.solving.Progress.{Progress}
 use Rattle.elimination.specs.declared.beneath.solving.Progress.the-variants.{Held, Clash}
 use Rattle.solver.specs.System.{hdpcRows, sentRow, arrivalRows, fixedWith, systemOf}
-use Rattle.intake.specs.Taking.{Says, single, standing}
+use Rattle.intake.specs.Taking.{Says, single}
 
 -- the same equations, in any order
 pub record Alike (L T : ℕ) (S R : System ℕ) : Type 0 where
@@ -74,30 +73,6 @@ pub says-alike : {L T : ℕ} {S R : System ℕ} (ps a d : List ℕ) (p : Progres
 says-alike ps a d (Held r) f s = (s .0, holds-alike f (s .1))
 says-alike ps a d Clash f s = same-contradiction (f .to) (f .back) s
 
--- ---- the equations of two stores, one more each time
-
-module _ (L T from i : ℕ) (a d : List ℕ) where
-  abbrev at : System ℕ
-  at = single (cell L a (from + i)) (cell T d (from + i))
-
-  more-to : Included L T (joined (standing L T from i a d) at) (standing L T from (i + 1) a d)
-  more-to = included-both L T (standing L T from i a d) at
-      (λ k h. (k, omega arith, record { coefs = λ c l. refl; bytes = λ t l. refl }))
-      (λ k h. (i, omega arith, record { coefs = λ c l. refl; bytes = λ t l. refl }))
-
-  more-back : Included L T (standing L T from (i + 1) a d) (joined (standing L T from i a d) at)
-  more-back k h = go (decLt k i)
-    where
-      go : Dec (k < i) → OneOf L T (standing L T from (i + 1) a d) k (joined (standing L T from i a d) at)
-      go (yes l) = one-then (record { coefs = λ c q. refl; bytes = λ t q. refl }) (included-first L T (standing L T from i a d) at k l)
-      go (no l) =
-          let e : k ≡ i = omega arith in
-          one-then (record { coefs = λ c q. ap (λ (x : ℕ). cell L a (from + x) c) e; bytes = λ t q. ap (λ (x : ℕ). cell T d (from + x) t) e })
-          (included-second L T (standing L T from i a d) at 0 (omega arith))
-
-  pub standing-more : Alike L T (joined (standing L T from i a d) at) (standing L T from (i + 1) a d)
-  standing-more = record { to = more-to; back = more-back }
-
 -- ---- a packet more: e with the symbol s, behind es and xs
 
 module _ (v : List ℕ) (r : Row) (k t e : ℕ) (es xs s : List ℕ) (all : length xs ≡ length es * t) (L : ℕ) where
@@ -145,12 +120,11 @@ module _ (v : List ℕ) (r : Row) (k t e : ℕ) (es xs s : List ℕ) (all : leng
       let Z : System ℕ = fixedWith (hdpcRows v r) v r k in
       alike-then (alike-shift Z old new) (alike-parts Z (joined old new) Z all-of (alike-self Z) packet-more)
 
--- ---- the arrivals with the rows that are fixed, which are the system of no arrivals
+-- ---- the arrivals with the rows that are fixed
 
-pub system-whole : (L T : ℕ) (v : List ℕ) (r : Row) (k t : ℕ) (es xs : List ℕ) {R : System ℕ} → Alike L T (systemOf r v k t [] []) R
+pub system-whole : (L T : ℕ) (v : List ℕ) (r : Row) (k t : ℕ) (es xs : List ℕ) {R : System ℕ} → Alike L T R (fixedWith (hdpcRows v r) v r k)
     → Alike L T (joined (arrivalRows v r k t es xs) R) (systemOf r v k t es xs)
 system-whole L T v r k t es xs {R} f =
     let Z : System ℕ = fixedWith (hdpcRows v r) v r k in
     let A : System ℕ = arrivalRows v r k t es xs in
-    let none : Alike L T Z (systemOf r v k t [] []) = alike-none Z (arrivalRows v r k t [] []) refl in
-    alike-then (alike-turn A R) (alike-parts R A Z A (alike-turned (alike-then none f)) (alike-self A))
+    alike-then (alike-turn A R) (alike-parts R A Z A f (alike-self A))

@@ -1,4 +1,4 @@
--- Document 02, E1: what an intake holds, when each of its three calls is refused, and what each leaves. What came since the last accepted begin is a
+-- Document 02, E1 and E14: what an intake holds, when each of its three calls is refused, and what each leaves. What came since the last accepted begin is a
 -- stretch; the answers are those of the solver's system on it.
 -- Assumes nothing.
 use mathlib.Core.Path.{_≡_}
@@ -21,28 +21,27 @@ use Rattle.elimination.specs.Steps.{StoresRoom}
 use Rattle.elimination.specs.Verdict.{Means}
 use Rattle.elimination.specs.declared.beneath.solving.Progress.{Progress}
 use Rattle.elimination.specs.declared.verdict.Verdict.{Verdict}
-use Rattle.solver.specs.System.{equations, arrivalRows, systemOf}
+use Rattle.solver.specs.System.{arrivalRows, systemOf}
 use Rattle.solver.specs.declared.solver.Solution.{Solution}
 use Rattle.solver.specs.declared.solver.Solution.the-variants.{Given, Refused}
 use Rattle.field.specs.Answer.{refused, codeOf}
 use Rattle.intake.specs.Taking.{Says, Placed}
-use Rattle.intake.specs.State.{Begun, rowIn, kIn, tIn, mostIn, cameIn, markIn, tablesIn, lIn, mIn, progressIn, words}
+use Rattle.intake.specs.State.{Begun, rowIn, kIn, tIn, markIn, tablesIn, lIn, progressIn, words}
 
 -- ---- what it holds
 
--- what began and what came since: row, tables, K, T, the most packets, and the packets that were accepted, in the order of their coming
+-- what began and what came since: row, tables, K, T, and the packets that were accepted, any number of them, in the order of their coming
 pub record Stretch : Type 0 where
   pub row : Row
   pub tables : List ℕ
   pub k : ℕ
   pub t : ℕ
-  pub most : ℕ
   pub esis : List ℕ
   pub symbols : List ℕ
 
 -- nothing came yet
-abbrev pub fresh : Row → List ℕ → (k t most : ℕ) → Stretch
-fresh r v k t most = record { row = r; tables = v; k = k; t = t; most = most; esis = []; symbols = [] }
+abbrev pub fresh : Row → List ℕ → (k t : ℕ) → Stretch
+fresh r v k t = record { row = r; tables = v; k = k; t = t; esis = []; symbols = [] }
 
 -- one more came: the ESI e, with the symbol s
 abbrev pub arrived : Stretch → ℕ → List ℕ → Stretch
@@ -51,7 +50,6 @@ arrived z e s = record {
   tables = z .tables;
   k = z .k;
   t = z .t;
-  most = z .most;
   esis = z .esis ++ (e ∷ []);
   symbols = z .symbols ++ s;
 }
@@ -77,37 +75,34 @@ pub record Named (z : Stretch) (st : List ℕ) : Type 0 where
   pub tables : tablesIn st ≡ z .tables
   pub k : kIn st ≡ z .k
   pub t : tIn st ≡ z .t
-  pub most : mostIn st ≡ z .most
-  pub came : cameIn st ≡ length (z .esis)
 
 -- Document 02, E1: this state, these pivots and these stores hold what came since begin.
 pub record Holding (z : Stretch) (st ps a d : List ℕ) : Type 0 where
   pub begun : Begun st ps
   pub named : Named z st
   pub sent : Sent z
-  pub room : StoresRoom (mIn st) (lIn st) (tIn st) a d
+  pub room : StoresRoom (lIn st) (lIn st) (tIn st) a d
   pub says : Says (lIn st) (tIn st) (takenOf z (eqb (markIn st) 1)) ps a d (progressIn st)
 
 -- ---- the refusals
 
--- stores of a and d octets for M equations: 8
-abbrev pub storesRoom : (m l t a d : ℕ) → Outcome (Unit {0}) → Outcome (Unit {0})
-storesRoom m l t a d o = unless (ltb a (m * l)) 8 (unless (ltb d (m * t)) 8 o)
+-- stores of a and d octets for L rows and L symbols: 8
+abbrev pub storesRoom : (l t a d : ℕ) → Outcome (Unit {0}) → Outcome (Unit {0})
+storesRoom l t a d o = unless (ltb a (l * l)) 8 (unless (ltb d (l * t)) 8 o)
 
 -- begin, on numbers: 4, 5, 9, 10, 8. Tables of `tables` numbers, a state of `state` words, `pivots` places, stores of a and d octets
-abbrev pub beginnable : Row → (tables k t most state pivots a d : ℕ) → Outcome (Unit {0})
-beginnable r tables k t most state pivots a d =
-    before (verified r) (unless (not (eqb tables 1024)) 5 (unless (ltb k 1) 9 (unless (ltb (r .kp) k) 9 (unless (ltb 65535 most) 9 (unless (eqb t 0) 10
-    (storesRoom (equations r k most) (lOf r) t a d (unless (ltb state 1039) 8 (unless (ltb pivots (lOf r)) 8 (given tt)))))))))
+abbrev pub beginnable : Row → (tables k t state pivots a d : ℕ) → Outcome (Unit {0})
+beginnable r tables k t state pivots a d =
+    before (verified r) (unless (not (eqb tables 1024)) 5 (unless (ltb k 1) 9 (unless (ltb (r .kp) k) 9 (unless (eqb t 0) 10
+    (storesRoom (lOf r) t a d (unless (ltb state 1037) 8 (unless (ltb pivots (lOf r)) 8 (given tt))))))))
 
--- a packet of an intake that was begun: 9, 10, 8. The ESI e, a symbol of s octets
+-- a packet of an intake that was begun: 9, 10, 8. The ESI e, a symbol of s octets; how many came before it is not asked
 abbrev pub takable : List ℕ → (e s a d : ℕ) → Outcome (Unit {0})
-takable st e s a d =
-    unless (leb 16777216 e) 9 (unless (leb (mostIn st) (cameIn st)) 9 (unless (not (eqb s (tIn st))) 10 (storesRoom (mIn st) (lIn st) (tIn st) a d (given tt))))
+takable st e s a d = unless (leb 16777216 e) 9 (unless (not (eqb s (tIn st))) 10 (storesRoom (lIn st) (tIn st) a d (given tt)))
 
 -- a question: 8. An out store of o octets
 abbrev pub askable : List ℕ → (a d o : ℕ) → Outcome (Unit {0})
-askable st a d o = storesRoom (mIn st) (lIn st) (tIn st) a d (unless (ltb o (lIn st * tIn st)) 8 (given tt))
+askable st a d o = storesRoom (lIn st) (tIn st) a d (unless (ltb o (lIn st * tIn st)) 8 (given tt))
 
 -- 14 before all others: x is what is answered, where o are the refusals of an intake that was begun
 pub record Admitted (st ps : List ℕ) (o x : Outcome (Unit {0})) : Type 0 where
@@ -118,20 +113,20 @@ pub record Admitted (st ps : List ℕ) (o x : Outcome (Unit {0})) : Type 0 where
 -- ---- the calls
 
 -- begin forgets all, and copies row and tables
-abbrev pub Begins : Row → List ℕ → (k t most : ℕ) (st ps a d st₁ : List ℕ) → Answer → Type 0
-Begins r v k t most st ps a d st₁ Plains.Done =
-    (beginnable r (length v) k t most (length st) (length ps) (length a) (length d) ≡ given tt)
-    × Written (λ i. getD (words r k t most v) i 0) st st₁ 0 1039
-    × Holding (fresh r v k t most) st₁ ps a d
-Begins r v k t most st ps a d st₁ (Plains.Refused why) =
-    (beginnable r (length v) k t most (length st) (length ps) (length a) (length d) ≡ refused (codeOf why)) × (st₁ ≡ st)
+abbrev pub Begins : Row → List ℕ → (k t : ℕ) (st ps a d st₁ : List ℕ) → Answer → Type 0
+Begins r v k t st ps a d st₁ Plains.Done =
+    (beginnable r (length v) k t (length st) (length ps) (length a) (length d) ≡ given tt)
+    × Written (λ i. getD (words r k t v) i 0) st st₁ 0 1037
+    × Holding (fresh r v k t) st₁ ps a d
+Begins r v k t st ps a d st₁ (Plains.Refused why) =
+    (beginnable r (length v) k t (length st) (length ps) (length a) (length d) ≡ refused (codeOf why)) × (st₁ ≡ st)
 
--- what a call may change, of a state that was begun: three words, L pivots, and the used parts of the stores
+-- what a call may change, of a state that was begun: two words, L pivots, and L places of each store
 pub record Within (st ps a d st₁ ps₁ a₁ d₁ : List ℕ) : Type 0 where
-  pub state : Written (λ i. getD st₁ (12 + i) 0) st st₁ 12 3
+  pub state : Written (λ i. getD st₁ (11 + i) 0) st st₁ 11 2
   pub pivots : OnlyBelow (lIn st) ps ps₁
-  pub rows : OnlyBelow (mIn st * lIn st) a a₁
-  pub symbols : OnlyBelow (mIn st * tIn st) d d₁
+  pub rows : OnlyBelow (lIn st * lIn st) a a₁
+  pub symbols : OnlyBelow (lIn st * tIn st) d d₁
 
 -- and a refused one nothing
 pub record Unchanged (st ps a d st₁ ps₁ a₁ d₁ : List ℕ) : Type 0 where
@@ -144,9 +139,8 @@ pub record Unchanged (st ps a d st₁ ps₁ a₁ d₁ : List ℕ) : Type 0 where
 pub record Packet (e : ℕ) (s st ps a d : List ℕ) : Type 0 where
   pub begun : Begun st ps
   pub esi : e < 16777216
-  pub more : cameIn st < mostIn st
   pub size : length s ≡ tIn st
-  pub room : StoresRoom (mIn st) (lIn st) (tIn st) a d
+  pub room : StoresRoom (lIn st) (lIn st) (tIn st) a d
 
 -- what was held is held with one packet more
 abbrev pub HoldsMore : (e : ℕ) (s st ps a d st₁ ps₁ a₁ d₁ : List ℕ) → Type 0
@@ -168,7 +162,7 @@ AnswersHeld st ps a d o st₁ ps₁ a₁ d₁ o₁ v =
 -- the rows that row, tables and K fix are taken too, whatever was before: the elimination stands at q
 pub record Completes (st ps a d st₁ ps₁ a₁ d₁ : List ℕ) (q : Progress) : Type 0 where
   pub within : Within st ps a d st₁ ps₁ a₁ d₁
-  pub placed : Placed (lIn st) (mIn st) ps₁ q
+  pub placed : Placed (lIn st) ps₁ q
   pub holds : (z : Stretch) → Holding z st ps a d → Holding z st₁ ps₁ a₁ d₁ × Says (lIn st) (tIn st) (systemIn z) ps₁ a₁ d₁ q
 
 -- whether a question was answered

@@ -1,5 +1,5 @@
-// The intake of a block, packet by packet (document 02, E1). State, pivots and stores are lent to each call as the last one left them; with other
-// content in them every call still returns, and refuses or answers.
+// The intake of a block, packet by packet (document 02, E1), any number of them in stores for L rows and L symbols (E14). State, pivots and stores are
+// lent to each call as the last one left them; with other content in them every call still returns, and refuses or answers.
 ghost use mathlib.Core.Path.{_≡_};
 ghost use Prim.Native.Nat.{_≤_};
 ghost use lib.ListN.{length};
@@ -15,18 +15,17 @@ use field::refusal::Answer;
 use field::refusal::Refusal;
 use headers::beneath::row;
 use headers::row::Row;
-use solver::beneath::sizes;
 use solver::solver::Solution;
 
-// Refusal 8: a store is too short for M rows of L octets, or for M symbols.
-fn room(m: usize, l: usize, t: usize, rows: usize, values: usize) -> Answer
-    requires { ⌜ (m ≤ 131070) × (l ≤ 65535) × (t ≤ 65535) ⌝ }
-    ensures { λ a. ⌜ done a ≡ storesRoom m l t rows values (given tt) ⌝ }
+// Refusal 8: a store is too short for L rows of L octets, or for L symbols.
+fn room(l: usize, t: usize, rows: usize, values: usize) -> Answer
+    requires { ⌜ (l ≤ 65535) × (t ≤ 65535) ⌝ }
+    ensures { λ a. ⌜ done a ≡ storesRoom l t rows values (given tt) ⌝ }
 {
-    if rows < m * l {
+    if rows < l * l {
         return Answer::Refused(Refusal::WrongLength);
     }
-    if values < m * t {
+    if values < l * t {
         return Answer::Refused(Refusal::WrongLength);
     }
     Answer::Done
@@ -38,13 +37,12 @@ fn may_begin(
     tables: usize,
     k: u32,
     t: u16,
-    most: u32,
     state: usize,
     pivots: usize,
     rows: usize,
     values: usize,
 ) -> Answer
-    ensures { λ a. ⌜ done a ≡ beginnable r tables k t most state pivots rows values ⌝ }
+    ensures { λ a. ⌜ done a ≡ beginnable r tables k t state pivots rows values ⌝ }
 {
     let fine = row::verify(r);
     let Answer::Done = fine else {
@@ -59,18 +57,15 @@ fn may_begin(
     if k > r.kp {
         return Answer::Refused(Refusal::BadCount);
     }
-    if most > 65535 {
-        return Answer::Refused(Refusal::BadCount);
-    }
     if t == 0 {
         return Answer::Refused(Refusal::BadSize);
     }
     let l = r.l as usize;
-    let may = room(sizes::m(r, k, most as usize), l, t as usize, rows, values);
+    let may = room(l, t as usize, rows, values);
     let Answer::Done = may else {
         return may;
     };
-    if state < 1039 {
+    if state < 1037 {
         return Answer::Refused(Refusal::WrongLength);
     }
     if pivots < l {
@@ -79,19 +74,18 @@ fn may_begin(
     Answer::Done
 }
 
-// Begins anew with a row, tables, K and T, for `most` packets. All that came before is forgotten; the stores may hold anything.
+// Begins anew with a row, tables, K and T. All that came before is forgotten, a contradiction too; the stores may hold anything.
 pub fn begin(
     r: Row,
     tables: &[u32],
     k: u32,
     t: u16,
-    most: u32,
     state: &mut [u32],
     pivots: &[u16],
     rows: &[u8],
     values: &[u8],
 ) -> Answer
-    ensures { λ a. ⌜ Begins r (now (tables .entry)) k t most (now (state .entry)) (now (pivots .entry)) (now (rows .entry)) (now (values .entry))
+    ensures { λ a. ⌜ Begins r (now (tables .entry)) k t (now (state .entry)) (now (pivots .entry)) (now (rows .entry)) (now (values .entry))
         (now (state .exit)) a ⌝ }
 {
     let allowed = may_begin(
@@ -99,7 +93,6 @@ pub fn begin(
         tables.len(),
         k,
         t,
-        most,
         state.len(),
         pivots.len(),
         rows.len(),
@@ -108,7 +101,7 @@ pub fn begin(
     let Answer::Done = allowed else {
         return allowed;
     };
-    words::open(state, r, k, t as u32, most, tables);
+    words::open(state, r, k, t as u32, tables);
     Answer::Done
 }
 
@@ -120,24 +113,14 @@ fn may_take(state: &[u32], esi: u32, symbol: usize, rows: usize, values: usize) 
     if esi >= 16777216 {
         return Answer::Refused(Refusal::BadCount);
     }
-    if state[12] >= state[11] {
-        return Answer::Refused(Refusal::BadCount);
-    }
     let t = state[10] as usize;
     if symbol != t {
         return Answer::Refused(Refusal::BadSize);
     }
-    let r = words::row_in(state);
-    room(
-        sizes::m(r, state[9], state[11] as usize),
-        r.l as usize,
-        t,
-        rows,
-        values,
-    )
+    room(state[5] as usize, t, rows, values)
 }
 
-// Takes the packet of an ESI with its symbol.
+// Takes the packet of an ESI with its symbol. One whose row depends on what is held takes no place: its symbol is compared, and that is all.
 pub fn packet(
     esi: u32,
     symbol: &[u8],
@@ -166,15 +149,8 @@ fn may_ask(state: &[u32], rows: usize, values: usize, out: usize) -> Answer
     ensures { λ a. ⌜ done a ≡ askable (now (state .entry)) rows values out ⌝ }
 {
     let t = state[10] as usize;
-    let r = words::row_in(state);
-    let l = r.l as usize;
-    let may = room(
-        sizes::m(r, state[9], state[11] as usize),
-        l,
-        t,
-        rows,
-        values,
-    );
+    let l = state[5] as usize;
+    let may = room(l, t, rows, values);
     let Answer::Done = may else {
         return may;
     };

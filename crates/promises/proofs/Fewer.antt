@@ -1,4 +1,4 @@
--- Fewer arrivals than source symbols are never solved, and no arrivals are open.
+-- Fewer arrivals than source symbols are never solved, and no arrivals are open: by the definition (`judged-..`), and so of a call.
 -- Assumes nothing.
 use mathlib.Core.Path.{_≡_, refl, sym, ap, _∙_, subst}
 use mathlib.Core.Logic.{_≢_}
@@ -20,8 +20,8 @@ use Rattle.elimination.specs.declared.verdict.Verdict.{Verdict}
 use Rattle.elimination.specs.declared.verdict.Verdict.the-variants.{Solved, Contradiction, Open}
 use Rattle.solver.specs.System.{equations}
 use Rattle.solver.specs.declared.solver.Solution.the-variants.{Given}
-use Rattle.promises.specs.Calls.{Call, Fitting, MostRows}
-use Rattle.promises.proofs.Exactly.{sound, contradiction-none, solved-rows}
+use Rattle.promises.specs.Calls.{Call, Judged, Fitting, MostRows}
+use Rattle.promises.proofs.Exactly.{call-judged, judged-contradiction-none, judged-solved-rows}
 
 -- independent rows are at most as many as there are rows
 most-rows-few : (v : List ℕ) (r : Row) (k : ℕ) (es : List ℕ) (n : ℕ) → MostRows v r k es n → n ≤ equations r k (length es)
@@ -29,22 +29,33 @@ most-rows-few v r k es n m = pigeon octets n (equations r k (length es)) (m .som
 
 module _ {v : List ℕ} {r : Row} {k t : ℕ} {es xs o o₁ : List ℕ} where
   -- solved takes K arrivals at least: with fewer there are fewer equations than symbols
-  pub solved-takes : Call r v k t es xs o o₁ (Given Solved) → k ≤ length es
-  solved-takes c =
-      let h : lOf r ≤ equations r k (length es) = most-rows-few v r k es (lOf r) (solved-rows c) in
-      omega (arith, sound Solved c .k-high)
+  pub judged-solved-takes : Judged r v k t es xs o o₁ Solved → k ≤ length es
+  judged-solved-takes c =
+      let h : lOf r ≤ equations r k (length es) = most-rows-few v r k es (lOf r) (judged-solved-rows c) in
+      omega (arith, c .receivable .k-high)
 
   -- so fewer are never solved
-  pub fewer-never-solved : length es < k → (w : Verdict) → Call r v k t es xs o o₁ (Given w) → w ≢ Solved
-  fewer-never-solved h w c e = let n : k ≤ length es = solved-takes (subst (λ (u : Verdict). Call r v k t es xs o o₁ (Given u)) e c) in omega arith
+  pub judged-fewer-never-solved : length es < k → (w : Verdict) → Judged r v k t es xs o o₁ w → w ≢ Solved
+  judged-fewer-never-solved h w c e = let n : k ≤ length es = judged-solved-takes (subst (λ (u : Verdict). Judged r v k t es xs o o₁ u) e c) in omega arith
 
   -- open with fewer than K arrivals lacks at least those that are missing
-  pub open-takes : {s : ℕ} → Call r v k t es xs o o₁ (Given (Open s)) → k ≤ s + length es
-  open-takes {s} c =
-      let high : k ≤ r .kp = sound (Open s) c .k-high in
-      let p = c .contract .1 .1 .lacks in
+  pub judged-open-takes : {s : ℕ} → Judged r v k t es xs o o₁ (Open s) → k ≤ s + length es
+  judged-open-takes {s} c =
+      let high : k ≤ r .kp = c .receivable .k-high in
+      let p = c .means .1 .lacks in
       let h : p .rank ≤ equations r k (length es) = most-rows-few v r k es (p .rank) (p .most) in
       omega (arith, p .less)
+
+  -- ---- of a call
+
+  pub solved-takes : Call r v k t es xs o o₁ (Given Solved) → k ≤ length es
+  solved-takes c = judged-solved-takes (call-judged c)
+
+  pub fewer-never-solved : length es < k → (w : Verdict) → Call r v k t es xs o o₁ (Given w) → w ≢ Solved
+  fewer-never-solved h w c = judged-fewer-never-solved h w (call-judged c)
+
+  pub open-takes : {s : ℕ} → Call r v k t es xs o o₁ (Given (Open s)) → k ≤ s + length es
+  open-takes c = judged-open-takes (call-judged c)
 
 -- ---- no arrivals
 
@@ -75,7 +86,10 @@ zero-fits v r k t xs = record {
 }
 
 -- no arrivals give open, and K more at least are lacking
+pub judged-none-open : {v : List ℕ} {r : Row} {k t : ℕ} {xs o o₁ : List ℕ} (w : Verdict) → Judged r v k t [] xs o o₁ w → (s : ℕ) × (w ≡ Open s) × (k ≤ s)
+judged-none-open Solved c = absurd (let h = judged-solved-takes c in omega (arith, c .receivable .k-low))
+judged-none-open {v} {r} {k} {t} {xs} Contradiction c = absurd (judged-contradiction-none c (nothing (lOf r * t)) (zero-fits v r k t xs))
+judged-none-open (Open s) c = (s, refl, (let h = judged-open-takes c in omega arith))
+
 pub none-open : {v : List ℕ} {r : Row} {k t : ℕ} {xs o o₁ : List ℕ} (w : Verdict) → Call r v k t [] xs o o₁ (Given w) → (s : ℕ) × (w ≡ Open s) × (k ≤ s)
-none-open Solved c = absurd (let h = solved-takes c in omega (arith, sound Solved c .k-low))
-none-open {v} {r} {k} {t} {xs} Contradiction c = absurd (contradiction-none c (nothing (lOf r * t)) (zero-fits v r k t xs))
-none-open (Open s) c = (s, refl, (let h = open-takes c in omega arith))
+none-open w c = judged-none-open w (call-judged c)

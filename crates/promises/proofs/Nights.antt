@@ -39,8 +39,8 @@ unchanged : (m n : Memory) → Unchanged (m .state) (m .pivots) (m .rows) (m .va
 unchanged m n u = same-memory m n (u .state) (u .pivots) (u .rows) (u .symbols)
 
 module _ (m n : Memory) (why : Refusal) where
-  pub begin-refused : (r : Row) (v : List ℕ) (k t most : ℕ) → Happens (begin r v k t most (Plains.Refused why)) m n → n ≡ m
-  begin-refused r v k t most h = same-memory m n (h .0 .1) (h .1) (h .2) (h .3)
+  pub begin-refused : (r : Row) (v : List ℕ) (k t : ℕ) → Happens (begin r v k t (Plains.Refused why)) m n → n ≡ m
+  begin-refused r v k t h = same-memory m n (h .0 .1) (h .1) (h .2) (h .3)
 
   pub packet-refused : (e : ℕ) (s : List ℕ) → Happens (packet e s (Plains.Refused why)) m n → n ≡ m
   packet-refused e s h = unchanged m n (h .memory)
@@ -61,10 +61,10 @@ held-question (stretch z) o o₁ w m n h k = h .memory .2 z k .0
 
 -- one call more
 held-after : (x : Event) (was : Since) (m n : Memory) → Happens x m n → Keeps was m → Keeps (after was x) n
-held-after (begin r v k t most Plains.Done) was m n h q =
+held-after (begin r v k t Plains.Done) was m n h q =
     let b : Memory = record { state = n .state; pivots = m .pivots; rows = m .rows; values = m .values } in
-    subst (Keeps (stretch (fresh r v k t most))) (sym (same-memory b n refl (h .1) (h .2) (h .3))) (h .0 .2)
-held-after (begin r v k t most (Plains.Refused why)) was m n h q = subst (Keeps was) (sym (begin-refused m n why r v k t most h)) q
+    subst (Keeps (stretch (fresh r v k t))) (sym (same-memory b n refl (h .1) (h .2) (h .3))) (h .0 .2)
+held-after (begin r v k t (Plains.Refused why)) was m n h q = subst (Keeps was) (sym (begin-refused m n why r v k t h)) q
 held-after (packet e s Plains.Done) was m n h q = held-packet was e s m n h q
 held-after (packet e s (Plains.Refused why)) was m n h q = subst (Keeps was) (sym (packet-refused m n why e s h)) q
 held-after (question o o₁ (Solutions.Given w)) was m n h q = held-question was o o₁ w m n h q
@@ -104,15 +104,15 @@ module _ (xs : List Event) (m n l : Memory) (u : ¬ Begun (m .state) (m .pivots)
 -- ---- answers are settled
 
 -- that of a begin, with all memory: it is an equation
-pub begin-once : (m n l : Memory) (r : Row) (v : List ℕ) (k t most : ℕ) (x y : Answer) → Happens (begin r v k t most x) m n → Happens (begin r v k t most y) m l
+pub begin-once : (m n l : Memory) (r : Row) (v : List ℕ) (k t : ℕ) (x y : Answer) → Happens (begin r v k t x) m n → Happens (begin r v k t y) m l
     → (x ≡ y) × (n ≡ l)
-begin-once m n l r v k t most Plains.Done Plains.Done f g =
+begin-once m n l r v k t Plains.Done Plains.Done f g =
     (refl, same-memory l n (written-once (f .0 .1) (g .0 .1)) (f .1 ∙ sym (g .1)) (f .2 ∙ sym (g .2)) (f .3 ∙ sym (g .3)))
-begin-once m n l r v k t most Plains.Done (Plains.Refused w) f g = absurd (given-not-refused tt (codeOf w) (sym (f .0 .0) ∙ g .0 .0))
-begin-once m n l r v k t most (Plains.Refused w) Plains.Done f g = absurd (given-not-refused tt (codeOf w) (sym (g .0 .0) ∙ f .0 .0))
-begin-once m n l r v k t most (Plains.Refused w) (Plains.Refused u) f g = (
+begin-once m n l r v k t Plains.Done (Plains.Refused w) f g = absurd (given-not-refused tt (codeOf w) (sym (f .0 .0) ∙ g .0 .0))
+begin-once m n l r v k t (Plains.Refused w) Plains.Done f g = absurd (given-not-refused tt (codeOf w) (sym (g .0 .0) ∙ f .0 .0))
+begin-once m n l r v k t (Plains.Refused w) (Plains.Refused u) f g = (
   ap Plains.Refused (code-only w u (refused-only (codeOf w) (codeOf u) (sym (f .0 .0) ∙ g .0 .0))),
-  begin-refused m n w r v k t most f ∙ sym (begin-refused m l u r v k t most g),
+  begin-refused m n w r v k t f ∙ sym (begin-refused m l u r v k t g),
 )
 
 -- that of a packet by the memory, whatever it holds

@@ -18,7 +18,7 @@ use Rattle.field.proofs.Refusals.{done-only}
 use Rattle.headers.specs.Told.{Told}
 use Rattle.solver.specs.declared.solver.Solution.{Solution}
 use Rattle.solver.specs.declared.solver.Solution.the-variants as Solutions
-use Rattle.intake.specs.State.{Begun, tIn, mostIn, cameIn, lIn, mIn}
+use Rattle.intake.specs.State.{Begun, tIn, lIn}
 use Rattle.intake.specs.Night.{storesRoom, takable, askable, asked, Admitted}
 use Rattle.promises.specs.Nights.{Memory, packet, question, Happens}
 
@@ -32,8 +32,8 @@ zero-unbegun st ps e b = let h = b .numbers .rules .ranges .kp-low in omega arit
 pub zeros-unbegun : (st ps : List ℕ) → ((i : ℕ) → getD st i 0 ≡ 0) → ¬ Begun st ps
 zeros-unbegun st ps e = zero-unbegun st ps (e 0)
 
--- and less than 1,039 words, whatever they are
-pub short-unbegun : (st ps : List ℕ) → length st < 1039 → ¬ Begun st ps
+-- and less than 1,037 words, whatever they are
+pub short-unbegun : (st ps : List ℕ) → length st < 1037 → ¬ Begun st ps
 short-unbegun st ps h b = omega (arith, b .numbers .size)
 
 -- ---- 14 before all others
@@ -75,17 +75,17 @@ lower : (b : Bool) (n : ℕ) (o : Outcome (Unit {0})) → n < 14 → o ≢ refus
 lower true n o h k e = let q : n ≡ 14 = refused-only n 14 e in omega arith
 lower false n o h k e = k e
 
-lower-stores : (m l t a d : ℕ) (o : Outcome (Unit {0})) → o ≢ refused 14 → storesRoom m l t a d o ≢ refused 14
-lower-stores m l t a d o k = lower (ltb a (m * l)) 8 _ (omega arith) (lower (ltb d (m * t)) 8 o (omega arith) k)
+lower-stores : (l t a d : ℕ) (o : Outcome (Unit {0})) → o ≢ refused 14 → storesRoom l t a d o ≢ refused 14
+lower-stores l t a d o k = lower (ltb a (l * l)) 8 _ (omega arith) (lower (ltb d (l * t)) 8 o (omega arith) k)
 
 lower-packet : (st : List ℕ) (e s a d : ℕ) → takable st e s a d ≢ refused 14
 lower-packet st e s a d =
-    lower (leb 16777216 e) 9 _ (omega arith) (lower (leb (mostIn st) (cameIn st)) 9 _ (omega arith) (lower (not (eqb s (tIn st))) 10 _ (omega arith)
-    (lower-stores (mIn st) (lIn st) (tIn st) a d (given tt) (given-not-refused tt 14))))
+    lower (leb 16777216 e) 9 _ (omega arith) (lower (not (eqb s (tIn st))) 10 _ (omega arith)
+    (lower-stores (lIn st) (tIn st) a d (given tt) (given-not-refused tt 14)))
 
 lower-question : (st : List ℕ) (a d o : ℕ) → askable st a d o ≢ refused 14
 lower-question st a d o =
-    lower-stores (mIn st) (lIn st) (tIn st) a d _ (lower (ltb o (lIn st * tIn st)) 8 (given tt) (omega arith) (given-not-refused tt 14))
+    lower-stores (lIn st) (tIn st) a d _ (lower (ltb o (lIn st * tIn st)) 8 (given tt) (omega arith) (given-not-refused tt 14))
 
 asked-unbegun : (x : Solution) → (asked x ≡ refused 14) ↔ (x ≡ Solutions.Refused Why.NotBegun)
 asked-unbegun (Solutions.Given w) = (λ e. absurd (given-not-refused tt 14 e), λ e. ap asked e)

@@ -1,5 +1,5 @@
 -- The shortfall as a floor (document 02, E9), of two questions of one night with no accepted begin between them: by the accepted packets between them it falls
--- as it does for `solve`, since both are calls of it. A packet that was refused counts for nothing.
+-- as it does for `solve`, since both are answered by its definition, whatever the number of packets. A packet that was refused counts for nothing.
 -- Assumes nothing.
 use mathlib.Core.Path.{_≡_, refl, subst}
 use mathlib.Core.Logic.{_≢_, _⊎_, _↔_}
@@ -14,19 +14,21 @@ use Rattle.intake.specs.Night.{Stretch}
 use Rattle.promises.specs.Calls.{Lacks, SameRows, Depends}
 use Rattle.promises.specs.Nights.{Event, packet, question, sinceBegin, stretch, Question, NoBegin, acceptedEsis, acceptedCount}
 use Rattle.promises.proofs.SentRows.{rows-self, rows-first, same-rows-self, same-rows-behind}
-use Rattle.promises.proofs.Floor.{one-apart, floor, never-grows, falls-exactly, rows-alone}
-use Rattle.promises.proofs.Stretches.{since-continues, call-on, begun-before, both}
+use Rattle.promises.proofs.Floor.{one-apart, judged-floor, judged-never-grows, judged-falls-exactly, judged-rows-alone}
+use Rattle.promises.proofs.Stretches.{since-continues, judged-on, begun-before, both}
 
 -- Two questions, neither of them answered by a contradiction: the first lacks m, the second n. Between them came ys.
 module _ (xs ys : List Event) (o o₁ p p₁ : List ℕ) (w u : Verdict) (m n : ℕ) (b : NoBegin ys)
     (q : Question (xs ++ (question o o₁ (Given w) ∷ ys)) p p₁ (Given u)) (x : Lacks w m) (y : Lacks u n) where
   -- the number falls by no more than the packets that were accepted
   pub floor-later : m ≤ acceptedCount ys + n
-  floor-later = let c = both xs ys o o₁ p p₁ w u b q in floor m n (c .first) (c .second) x y (acceptedEsis ys) (rows-self (c .held .esis ++ acceptedEsis ys))
+  floor-later =
+      let c = both xs ys o o₁ p p₁ w u b q in
+      judged-floor m n (c .first) (c .second) x y (acceptedEsis ys) (rows-self (c .held .esis ++ acceptedEsis ys))
 
   -- and never grows
   pub never-grows-later : n ≤ m
-  never-grows-later = let c = both xs ys o o₁ p p₁ w u b q in never-grows m n (c .first) (c .second) x y (rows-first (c .held .esis) (acceptedEsis ys))
+  never-grows-later = let c = both xs ys o o₁ p p₁ w u b q in judged-never-grows m n (c .first) (c .second) x y (rows-first (c .held .esis) (acceptedEsis ys))
 
   -- (a) one accepted packet lowers it by one or leaves it, however many were refused
   pub falls-by-one-later : acceptedCount ys ≡ 1 → (n ≡ m) ⊎ (suc n ≡ m)
@@ -40,7 +42,7 @@ module _ (xs ys : List Event) (o o₁ p p₁ : List ℕ) (w u : Verdict) (m n : 
       let z : Stretch = c .held in
       let same : SameRows (z .tables) (z .row) (z .k) (z .esis ++ acceptedEsis ys) (z .esis ++ (e ∷ [])) = subst
       (λ (gs : List ℕ). SameRows (z .tables) (z .row) (z .k) (z .esis ++ acceptedEsis ys) (z .esis ++ gs)) one (same-rows-self (z .esis ++ acceptedEsis ys)) in
-      (z, c .is, falls-exactly m n (c .first) (c .second) x y e same)
+      (z, c .is, judged-falls-exactly m n (c .first) (c .second) x y e same)
 
 -- (b) an open m is never followed by solved before m packets more were accepted
 module _ (xs ys : List Event) (o o₁ p p₁ : List ℕ) (m : ℕ) (b : NoBegin ys) where
@@ -58,7 +60,7 @@ module _ (xs ys zs : List Event) (o o₁ p p₁ : List ℕ) (w u : Verdict) (m n
   pub rows-alone-later : (z : Stretch) → sinceBegin xs ≡ stretch z → SameRows (z .tables) (z .row) (z .k) (acceptedEsis ys) (acceptedEsis zs)
       → NoBegin ys → NoBegin zs → Question (xs ++ ys) o o₁ (Given w) → Question (xs ++ zs) p p₁ (Given u) → Lacks w m → Lacks u n → m ≡ n
   rows-alone-later z is same f g a b x y =
-      rows-alone m n (call-on a (since-continues xs ys z f is)) (call-on b (since-continues xs zs z g is)) x y (same-rows-behind (z .esis) same)
+      judged-rows-alone m n (judged-on a (since-continues xs ys z f is)) (judged-on b (since-continues xs zs z g is)) x y (same-rows-behind (z .esis) same)
 
   -- so of the same ESIs
   pub symbols-alone-later : acceptedEsis ys ≡ acceptedEsis zs → NoBegin ys → NoBegin zs

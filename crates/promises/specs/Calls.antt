@@ -1,4 +1,5 @@
--- Demand 3 in the words of a caller: a call of `solve`, its arrivals, and the sets of intermediate symbols that fit.
+-- Demand 3 in the words of a caller: a call of `solve`, its arrivals, and the sets of intermediate symbols that fit. Document 02, E14: the same of any number
+-- of arrivals.
 -- Assumes nothing.
 use mathlib.Core.Path.{_≡_}
 use mathlib.Core.Logic.{_≢_}
@@ -6,7 +7,7 @@ use mathlib.Core.List.{List, []}
 use Prim.Native.Nat.{ℕ, _*_, _≤_, _<_}
 use lib.ListN.{length, getD, take}
 use Rattle.field.specs.declared.refusal.Answer.the-variants as Plains
-use Rattle.headers.specs.Row.{lOf}
+use Rattle.headers.specs.Row.{Obeys, lOf}
 use Rattle.headers.specs.Shift.{shifted}
 use Rattle.headers.specs.declared.row.Row.{Row}
 use Rattle.constraints.specs.Hdpc.{hdpcOf}
@@ -17,6 +18,7 @@ use Rattle.linear.specs.Span.{InSpan}
 use Rattle.linear.specs.Independent.{MostIndependent}
 use Rattle.linear.specs.Octets.{octets, oct}
 use Rattle.encoding.specs.Encoded.{Encodes, combined, encoded}
+use Rattle.elimination.specs.Verdict.{Means}
 use Rattle.elimination.specs.declared.verdict.Verdict.{Verdict}
 use Rattle.elimination.specs.declared.verdict.Verdict.the-variants.{Solved, Contradiction, Open}
 use Rattle.solver.specs.System.{Solves, equations, sentRow, systemOf}
@@ -33,6 +35,25 @@ pub record Call (r : Row) (v : List ℕ) (k t : ℕ) (es xs o o₁ : List ℕ) (
 -- the set that an out store holds: its first L·T octets
 abbrev pub setIn : Row → ℕ → List ℕ → List ℕ
 setIn r t o = take (lOf r * t) o
+
+-- ---- the limit on n lifted (document 02, E14)
+
+-- what a call that is not refused has made sure of, of row, tables, K, T, ESIs and symbols, but for their number
+pub record Receivable (r : Row) (v : List ℕ) (k t : ℕ) (es xs : List ℕ) : Type 0 where
+  pub rules : Obeys r
+  pub tables : length v ≡ 1024
+  pub k-low : 1 ≤ k
+  pub k-high : k ≤ r .kp
+  pub ids : (i : ℕ) → i < length es → getD es i 0 < 16777216
+  pub t-low : 0 < t
+  pub all : length xs ≡ length es * t
+
+-- An answer by the solver's definition, to any number of arrivals. Where they are at most 65,535 it is what a call of `solve` answers (`judged-call`), and
+-- every such call answers so (`call-judged`).
+pub record Judged (r : Row) (v : List ℕ) (k t : ℕ) (es xs o o₁ : List ℕ) (w : Verdict) : Type 0 where
+  pub receivable : Receivable r v k t es xs
+  pub room-out : lOf r * t ≤ length o
+  pub means : Means (lOf r) t (systemOf r v k t es xs) o o₁ w
 
 -- ---- arrivals
 

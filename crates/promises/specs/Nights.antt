@@ -1,12 +1,12 @@
--- Document 02, E1, in the words of a caller: a night is begins, packets and questions, one after the other, each handed what the last one left.
+-- Document 02, E1 and E14, in the words of a caller: a night is begins, packets and questions, one after the other, each handed what the last one left.
 -- Assumes nothing.
 use mathlib.Core.Path.{_≡_}
 use mathlib.Core.List.{List, [], _∷_, _++_}
-use Prim.Native.Nat.{ℕ, _*_, _≤_}
+use Prim.Native.Nat.{ℕ, _*_, _≤_, _<_}
 use lib.ListN.{length}
 use Rattle.field.specs.declared.refusal.Answer.{Answer}
 use Rattle.field.specs.declared.refusal.Answer.the-variants as Plains
-use Rattle.headers.specs.Row.{lOf}
+use Rattle.headers.specs.Row.{Obeys, lOf}
 use Rattle.headers.specs.declared.row.Row.{Row}
 use Rattle.elimination.specs.Steps.{StoresRoom}
 use Rattle.elimination.specs.declared.verdict.Verdict.{Verdict}
@@ -15,7 +15,7 @@ use Rattle.solver.specs.System.{equations}
 use Rattle.solver.specs.declared.solver.Solution.{Solution}
 use Rattle.intake.specs.State.{Begun}
 use Rattle.intake.specs.Night.{Stretch, fresh, arrived, Holding, Begins, Takes, Asks}
-use Rattle.promises.specs.Calls.{Call, setIn}
+use Rattle.promises.specs.Calls.{Call, Judged, setIn}
 
 -- ---- the calls of a night
 
@@ -28,16 +28,26 @@ pub record Memory : Type 0 where
 
 -- a call with all that it was handed but the memory, and with its answer; of a question the out store before and after, too
 pub data Event : Type 0 where
-  begin : Row → List ℕ → (k t most : ℕ) → Answer → Event
+  begin : Row → List ℕ → (k t : ℕ) → Answer → Event
   packet : (esi : ℕ) → (symbol : List ℕ) → Answer → Event
   question : (out out₁ : List ℕ) → Solution → Event
 
 -- its contract, from the memory before to the memory after; a begin is lent pivots and stores only to measure them
 abbrev pub Happens : Event → Memory → Memory → Type 0
-Happens (begin r v k t most x) m n =
-    Begins r v k t most (m .state) (m .pivots) (m .rows) (m .values) (n .state) x × (n .pivots ≡ m .pivots) × (n .rows ≡ m .rows) × (n .values ≡ m .values)
+Happens (begin r v k t x) m n =
+    Begins r v k t (m .state) (m .pivots) (m .rows) (m .values) (n .state) x × (n .pivots ≡ m .pivots) × (n .rows ≡ m .rows) × (n .values ≡ m .values)
 Happens (packet e s x) m n = Takes e s (m .state) (m .pivots) (m .rows) (m .values) (n .state) (n .pivots) (n .rows) (n .values) x
 Happens (question o o₁ x) m n = Asks (m .state) (m .pivots) (m .rows) (m .values) o (n .state) (n .pivots) (n .rows) (n .values) o₁ x
+
+-- all that a begin asks besides room in the two stores
+pub record Beginning (r : Row) (v : List ℕ) (k t : ℕ) (m : Memory) : Type 0 where
+  pub rules : Obeys r
+  pub tables : length v ≡ 1024
+  pub k-low : 1 ≤ k
+  pub k-high : k ≤ r .kp
+  pub t-low : 0 < t
+  pub state : 1037 ≤ length (m .state)
+  pub pivots : lOf r ≤ length (m .pivots)
 
 -- one call after the other
 abbrev pub Night : List Event → Memory → Memory → Type 0
@@ -58,8 +68,8 @@ withPacket (stretch z) e s = stretch (arrived z e s)
 
 -- an accepted begin forgets all, an accepted packet comes behind the others, and nothing else counts
 abbrev pub after : Since → Event → Since
-after was (begin r v k t most Plains.Done) = stretch (fresh r v k t most)
-after was (begin r v k t most (Plains.Refused why)) = was
+after was (begin r v k t Plains.Done) = stretch (fresh r v k t)
+after was (begin r v k t (Plains.Refused why)) = was
 after was (packet e s Plains.Done) = withPacket was e s
 after was (packet e s (Plains.Refused why)) = was
 after was (question o o₁ x) = was
@@ -90,7 +100,11 @@ pub record Question (xs : List Event) (o o₁ : List ℕ) (answer : Solution) : 
 
 -- ---- beside the solver
 
--- a call of `solve` on the packets of a stretch
+-- an answer on the packets of a stretch by the solver's definition, whatever their number
+abbrev pub JudgedOn : Stretch → (o o₁ : List ℕ) → Verdict → Type 0
+JudgedOn z o o₁ w = Judged (z .row) (z .tables) (z .k) (z .t) (z .esis) (z .symbols) o o₁ w
+
+-- a call of `solve` on them, which takes 65,535 at most
 abbrev pub CallOn : Stretch → (o o₁ : List ℕ) → Solution → Type 0
 CallOn z o o₁ x = Call (z .row) (z .tables) (z .k) (z .t) (z .esis) (z .symbols) o o₁ x
 
@@ -110,15 +124,15 @@ pub record SameAnswer (r : Row) (t : ℕ) (o o₁ p p₁ : List ℕ) (w u : Verd
 -- none of these is an accepted begin
 abbrev pub NoBegin : List Event → Type 0
 NoBegin [] = Unit {0}
-NoBegin (begin r v k t most Plains.Done ∷ xs) = ⊥
-NoBegin (begin r v k t most (Plains.Refused why) ∷ xs) = NoBegin xs
+NoBegin (begin r v k t Plains.Done ∷ xs) = ⊥
+NoBegin (begin r v k t (Plains.Refused why) ∷ xs) = NoBegin xs
 NoBegin (packet e s x ∷ xs) = NoBegin xs
 NoBegin (question o o₁ x ∷ xs) = NoBegin xs
 
 -- the ESIs of the packets that were accepted, in their order: a refused one does not count
 abbrev pub acceptedEsis : List Event → List ℕ
 acceptedEsis [] = []
-acceptedEsis (begin r v k t most x ∷ xs) = acceptedEsis xs
+acceptedEsis (begin r v k t x ∷ xs) = acceptedEsis xs
 acceptedEsis (packet e s Plains.Done ∷ xs) = e ∷ acceptedEsis xs
 acceptedEsis (packet e s (Plains.Refused why) ∷ xs) = acceptedEsis xs
 acceptedEsis (question o o₁ x ∷ xs) = acceptedEsis xs
@@ -126,7 +140,7 @@ acceptedEsis (question o o₁ x ∷ xs) = acceptedEsis xs
 -- and their symbols
 abbrev pub acceptedSymbols : List Event → List ℕ
 acceptedSymbols [] = []
-acceptedSymbols (begin r v k t most x ∷ xs) = acceptedSymbols xs
+acceptedSymbols (begin r v k t x ∷ xs) = acceptedSymbols xs
 acceptedSymbols (packet e s Plains.Done ∷ xs) = s ++ acceptedSymbols xs
 acceptedSymbols (packet e s (Plains.Refused why) ∷ xs) = acceptedSymbols xs
 acceptedSymbols (question o o₁ x ∷ xs) = acceptedSymbols xs
@@ -137,7 +151,7 @@ acceptedCount xs = length (acceptedEsis xs)
 
 -- a stretch that began as z did, with these packets
 abbrev pub withPackets : Stretch → (es xs : List ℕ) → Stretch
-withPackets z es xs = record { row = z .row; tables = z .tables; k = z .k; t = z .t; most = z .most; esis = es; symbols = xs }
+withPackets z es xs = record { row = z .row; tables = z .tables; k = z .k; t = z .t; esis = es; symbols = xs }
 
 -- of which those of z are the first ones
 abbrev pub extended : Stretch → (es xs : List ℕ) → Stretch

@@ -8,10 +8,26 @@ ghost use Rattle.field.specs.Octet.{plus, doubled, power};
 ghost use Rattle.field.specs.Runs.{Written};
 ghost use Rattle.field.specs.Sum.{unit};
 ghost use Rattle.constraints.specs.Grid.{GridRoom, Column, cells};
-ghost use Rattle.constraints.specs.Hdpc.{hdpc};
+ghost use Rattle.constraints.specs.Hdpc.{first, hdpc, mt, second};
+use crate::beneath::unit::one_of;
 use crate::beneath::unit::unit;
 use field::doubling;
 use headers::beneath::rng;
+
+// The rows that have a one in column c of MT, but for the last column: a, and b after it.
+fn first_one(tables: &[u32], h: usize, c: usize) -> usize
+    requires { ⌜ (length (now tables) ≡ 1024) × (2 ≤ h) × (h ≤ 65535) × (c < 65535) ⌝ }
+    ensures { λ a. ⌜ (a ≡ first (now (tables .entry)) h c) × (a < h) ⌝ }
+{
+    rng::rand(tables, (c + 1) as u32, 6, h as u32) as usize
+}
+
+fn second_one(tables: &[u32], h: usize, c: usize, a: usize) -> usize
+    requires { ⌜ (length (now tables) ≡ 1024) × (2 ≤ h) × (h ≤ 65535) × (c < 65535) × (a < h) × (a ≡ first (now tables) h c) ⌝ }
+    ensures { λ b. ⌜ b ≡ second (now (tables .entry)) h c ⌝ }
+{
+    (a + rng::rand(tables, (c + 1) as u32, 7, (h - 1) as u32) as usize + 1) % h
+}
 
 fn unit_column(out: &mut [u8], at: usize, h: usize, l: usize, c: usize, one: usize)
     requires { ⌜ GridRoom (now out) at h l c ⌝ }
@@ -66,9 +82,49 @@ pub fn generate_hdpc_rows(tables: &[u32], out: &mut [u8], at: usize, l: usize, h
     alpha_column(out, at, h, l, c);
     while 0 < c {
         c -= 1;
-        let y = (c + 1) as u32;
-        let a = rng::rand(tables, y, 6, h as u32) as usize;
-        let b = (a + rng::rand(tables, y, 7, (h - 1) as u32) as usize + 1) % h;
+        let a = first_one(tables, h, c);
+        let b = second_one(tables, h, c, a);
         next_column(out, at, h, l, c, a, b);
     }
+}
+
+// Alpha to the power i.
+fn alpha(i: usize) -> u8
+    ensures { λ x. ⌜ x ≡ power i ⌝ }
+{
+    let mut x: u8 = 1;
+    let mut k = 0;
+    while k < i {
+        x = doubling::double(x);
+        k += 1;
+    }
+    x
+}
+
+// What MT, of n columns, has in row i and column c.
+fn mt(tables: &[u32], n: usize, h: usize, i: usize, c: usize) -> u8
+    requires { ⌜ (length (now tables) ≡ 1024) × (2 ≤ h) × (h ≤ 65535) × (n ≤ 65535) × (c < n) ⌝ }
+    ensures { λ x. ⌜ x ≡ mt (now (tables .entry)) n h i c ⌝ }
+{
+    if c + 1 == n {
+        return alpha(i);
+    }
+    let a = first_one(tables, h, c);
+    unit(i, a) ^ unit(i, second_one(tables, h, c, a))
+}
+
+// Row i alone, l octets from place `at` on: each octet is alpha times the next, with what column c of MT has, and then the identity.
+pub fn row(tables: &[u32], out: &mut [u8], at: usize, l: usize, h: usize, i: usize)
+    requires { ⌜ (length (now tables) ≡ 1024) × (h < l) × (2 ≤ h) × (l ≤ 65535) × (i < h) × (at + l ≤ length (now out)) ⌝ }
+    ensures { λ _. ⌜ Written (hdpc (now (tables .entry)) (l - h) h i) (now (out .entry)) (now (out .exit)) at l ⌝ }
+{
+    let n = l - h;
+    let mut x: u8 = 0;
+    let mut c = n;
+    while 0 < c {
+        c -= 1;
+        x = doubling::double(x) ^ mt(tables, n, h, i, c);
+        out[at + c] = x;
+    }
+    one_of(out, at + n, h, i);
 }

@@ -6,6 +6,7 @@ ghost use Rattle.field.specs.Octet.{plus};
 ghost use Rattle.field.specs.Runs.{Written};
 ghost use Rattle.field.specs.Sum.{unit};
 ghost use Rattle.constraints.specs.Ldpc.{Crosses, crossed, ldpc};
+use crate::beneath::unit::one_of;
 use crate::beneath::unit::unit;
 
 // (x + a) mod s, with no division.
@@ -39,18 +40,6 @@ fn crossings(out: &mut [u8], at: usize, s: usize, w: usize, b: usize, p: usize, 
         a = next_step(a, x, s);
         x = step(x, 1, s);
         c += 1;
-    }
-}
-
-// n octets, with a one at x.
-fn one_of(out: &mut [u8], at: usize, n: usize, x: usize)
-    requires { ⌜ at + n ≤ length (now out) ⌝ }
-    ensures { λ _. ⌜ Written (λ k. unit k x) (now (out .entry)) (now (out .exit)) at n ⌝ }
-{
-    let mut k = 0;
-    while k < n {
-        out[at + k] = unit(k, x);
-        k += 1;
     }
 }
 

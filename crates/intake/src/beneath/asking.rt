@@ -5,7 +5,7 @@ ghost use lib.ListN.{length};
 ghost use Rattle.linear.specs.Rows.{OnlyBelow};
 ghost use Rattle.elimination.specs.Steps.{StoresRoom};
 ghost use Rattle.intake.specs.Night.{AnswersHeld, Within};
-ghost use Rattle.intake.specs.State.{Begun, lIn, mIn, tIn};
+ghost use Rattle.intake.specs.State.{Begun, lIn, tIn};
 use crate::beneath::fixing;
 use elimination::beneath::settling;
 use elimination::beneath::solving;
@@ -21,7 +21,7 @@ pub fn answer(
     out: &mut [u8],
 ) -> Verdict
     requires { ⌜ Begun (now state) (now pivots) × (lIn (now state) * tIn (now state) ≤ length (now out)) ⌝ }
-    requires { ⌜ StoresRoom (mIn (now state)) (lIn (now state)) (tIn (now state)) (now rows) (now values) ⌝ }
+    requires { ⌜ StoresRoom (lIn (now state)) (lIn (now state)) (tIn (now state)) (now rows) (now values) ⌝ }
     ensures { λ _. ⌜ Within (now (state .entry)) (now (pivots .entry)) (now (rows .entry)) (now (values .entry))
         (now (state .exit)) (now (pivots .exit)) (now (rows .exit)) (now (values .exit)) ⌝ }
     ensures { λ _. ⌜ OnlyBelow (lIn (now (state .entry)) * tIn (now (state .entry))) (now (out .entry)) (now (out .exit)) ⌝ }

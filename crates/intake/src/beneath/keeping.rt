@@ -64,9 +64,8 @@ fn receive(
 {
     let r = words::row_in(state);
     let k = state[9];
-    let came = state[12];
-    let mark = state[14];
-    let laid = lay_packet(&state[15..1039], r, k, esi, symbol, row, buffer);
+    let mark = state[12];
+    let laid = lay_packet(&state[13..1037], r, k, esi, symbol, row, buffer);
     let p = words::progress_in(state);
     let q = stepping::take_next(
         rows,
@@ -79,7 +78,7 @@ fn receive(
         buffer,
         laid,
     );
-    words::note(state, came + 1, q, mark);
+    words::note(state, q, mark);
 }
 
 // The same in buffers that may be longer than a row and a symbol.
@@ -172,12 +171,11 @@ fn large(
     let buffer = &mut more[..t];
     let r = words::row_in(state);
     let k = state[9];
-    let came = state[12];
-    let mark = state[14];
-    let laid = lay_packet(&state[15..1039], r, k, esi, symbol, row, buffer);
+    let mark = state[12];
+    let laid = lay_packet(&state[13..1037], r, k, esi, symbol, row, buffer);
     let p = words::progress_in(state);
     let next = stepping::take_next(rows, values, pivots, l, t, p, row, buffer, laid);
-    words::note(state, came + 1, next, mark);
+    words::note(state, next, mark);
 }
 
 // A packet that nothing refuses.

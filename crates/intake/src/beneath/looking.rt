@@ -12,8 +12,8 @@ use field::refusal::Answer;
 use headers::beneath::row;
 
 // The numbers beside the row.
-fn counts(kp: u32, k: u32, t: u32, most: u32, came: u32, mark: u32) -> bool
-    ensures { λ b. ⌜ Told b (Counts kp k t most came mark) ⌝ }
+fn counts(kp: u32, k: u32, t: u32, mark: u32) -> bool
+    ensures { λ b. ⌜ Told b (Counts kp k t mark) ⌝ }
 {
     if k < 1 {
         return false;
@@ -27,12 +27,6 @@ fn counts(kp: u32, k: u32, t: u32, most: u32, came: u32, mark: u32) -> bool
     if t > 65535 {
         return false;
     }
-    if most > 65535 {
-        return false;
-    }
-    if came > most {
-        return false;
-    }
     if mark < 1 {
         return false;
     }
@@ -42,14 +36,11 @@ fn counts(kp: u32, k: u32, t: u32, most: u32, came: u32, mark: u32) -> bool
     true
 }
 
-// The r held rows are no more than n, and each has a column for its pivot.
-fn held(pivots: &[u16], l: usize, n: usize, r: usize) -> bool
+// The r held rows are no more than there are columns, and each has a column for its pivot.
+fn held(pivots: &[u16], l: usize, r: usize) -> bool
     requires { ⌜ l ≤ length (now pivots) ⌝ }
-    ensures { λ b. ⌜ Told b ((r ≤ n) × (r ≤ l) × ((k : ℕ) → k < r → column (now (pivots .entry)) k < l)) ⌝ }
+    ensures { λ b. ⌜ Told b ((r ≤ l) × ((k : ℕ) → k < r → column (now (pivots .entry)) k < l)) ⌝ }
 {
-    if r > n {
-        return false;
-    }
     if r > l {
         return false;
     }
@@ -63,12 +54,12 @@ fn held(pivots: &[u16], l: usize, n: usize, r: usize) -> bool
     true
 }
 
-fn placed(pivots: &[u16], l: usize, n: usize, p: Progress) -> bool
+fn placed(pivots: &[u16], l: usize, p: Progress) -> bool
     requires { ⌜ l ≤ length (now pivots) ⌝ }
-    ensures { λ b. ⌜ Told b (Placed l n (now (pivots .entry)) p) ⌝ }
+    ensures { λ b. ⌜ Told b (Placed l (now (pivots .entry)) p) ⌝ }
 {
     match p {
-        Progress::Held(r) => held(pivots, l, n, r),
+        Progress::Held(r) => held(pivots, l, r),
         Progress::Clash => true,
     }
 }
@@ -76,7 +67,7 @@ fn placed(pivots: &[u16], l: usize, n: usize, p: Progress) -> bool
 pub fn begun(state: &[u32], pivots: &[u16]) -> bool
     ensures { λ b. ⌜ Told b (Begun (now (state .entry)) (now (pivots .entry))) ⌝ }
 {
-    if state.len() < 1039 {
+    if state.len() < 1037 {
         return false;
     }
     let r = words::row_in(state);
@@ -87,10 +78,10 @@ pub fn begun(state: &[u32], pivots: &[u16]) -> bool
     if pivots.len() < l {
         return false;
     }
-    if !counts(r.kp, state[9], state[10], state[11], state[12], state[14]) {
+    if !counts(r.kp, state[9], state[10], state[12]) {
         return false;
     }
-    if !placed(pivots, l, words::taken_in(state), words::progress_in(state)) {
+    if !placed(pivots, l, words::progress_in(state)) {
         return false;
     }
     true

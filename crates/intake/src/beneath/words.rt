@@ -1,12 +1,11 @@
-// The words of a state: the row's nine numbers, K, T, the most packets, how many came, how many rows are held, a mark, and the tables.
+// The words of a state: the row's nine numbers, K, T, how many rows are held, a mark, and the tables.
 ghost use mathlib.Core.Path.{_≡_};
 ghost use Prim.Native.Nat.{_+_, _≤_};
 ghost use lib.ListN.{length, getD};
 ghost use Rattle.field.specs.Runs.{Written};
-ghost use Rattle.intake.specs.State.{Numbers, heldBy, markBy, noted, progressIn, rowIn, takenIn, words};
+ghost use Rattle.intake.specs.State.{heldBy, markBy, noted, progressIn, rowIn, words};
 use elimination::beneath::solving::Progress;
 use headers::row::Row;
-use solver::beneath::sizes;
 
 // The numbers go into the state, from word `at` on.
 fn copy(numbers: &[u32], state: &mut [u32], at: usize)
@@ -21,7 +20,7 @@ fn copy(numbers: &[u32], state: &mut [u32], at: usize)
 }
 
 pub fn row_in(state: &[u32]) -> Row
-    requires { ⌜ 1039 ≤ length (now state) ⌝ }
+    requires { ⌜ 1037 ≤ length (now state) ⌝ }
     ensures { λ r. ⌜ r ≡ rowIn (now (state .entry)) ⌝ }
 {
     Row {
@@ -37,12 +36,11 @@ pub fn row_in(state: &[u32]) -> Row
     }
 }
 
-// The words of a begin: nothing came, nothing is held, and the packets alone are taken.
-pub fn open(state: &mut [u32], r: Row, k: u32, t: u32, most: u32, tables: &[u32])
-    requires { ⌜ (1039 ≤ length (now state)) × (length (now tables) ≡ 1024) ⌝ }
-    ensures { λ _. ⌜ Written (λ i. getD (words r k t most (now (tables .entry))) i 0) (now (state .entry)) (now (state .exit)) 0 1039 ⌝ }
+// The words of a begin: nothing is held, and the packets alone are taken.
+pub fn open(state: &mut [u32], r: Row, k: u32, t: u32, tables: &[u32])
+    requires { ⌜ (1037 ≤ length (now state)) × (length (now tables) ≡ 1024) ⌝ }
+    ensures { λ _. ⌜ Written (λ i. getD (words r k t (now (tables .entry))) i 0) (now (state .entry)) (now (state .exit)) 0 1037 ⌝ }
 {
-    let came = 0;
     let held = 0;
     let mark = 1;
     let front = [
@@ -57,36 +55,22 @@ pub fn open(state: &mut [u32], r: Row, k: u32, t: u32, most: u32, tables: &[u32]
         r.p1,
         k,
         t,
-        most,
-        came,
         held,
         mark,
     ];
     copy(&front, state, 0);
-    copy(tables, state, 15);
+    copy(tables, state, 13);
 }
 
 // How far the elimination has come.
 pub fn progress_in(state: &[u32]) -> Progress
-    requires { ⌜ 1039 ≤ length (now state) ⌝ }
+    requires { ⌜ 1037 ≤ length (now state) ⌝ }
     ensures { λ p. ⌜ p ≡ progressIn (now (state .entry)) ⌝ }
 {
-    if state[14] == 3 {
+    if state[12] == 3 {
         return Progress::Clash;
     }
-    Progress::Held(state[13] as usize)
-}
-
-// How many equations were taken, by the numbers of a row that keeps its rules.
-pub fn taken_in(state: &[u32]) -> usize
-    requires { ⌜ Numbers (now state) ⌝ }
-    ensures { λ n. ⌜ n ≡ takenIn (now (state .entry)) ⌝ }
-{
-    let came = state[12] as usize;
-    if state[14] == 1 {
-        return came;
-    }
-    sizes::fixed(row_in(state), state[9]) + came
+    Progress::Held(state[11] as usize)
 }
 
 fn held_by(q: Progress) -> usize
@@ -107,14 +91,13 @@ fn mark_by(q: Progress, mark: u32) -> u32
     }
 }
 
-// So many came, and the elimination stands at q: a clash is marked, and no later packet takes the mark away.
-pub fn note(state: &mut [u32], came: u32, q: Progress, mark: u32)
-    requires { ⌜ (1039 ≤ length (now state)) × (heldBy q ≤ 65535) ⌝ }
-    ensures { λ _. ⌜ Written (λ i. getD (noted came q mark) i 0) (now (state .entry)) (now (state .exit)) 12 3 ⌝ }
+// The elimination stands at q: a clash is marked, and no later packet takes the mark away.
+pub fn note(state: &mut [u32], q: Progress, mark: u32)
+    requires { ⌜ (1037 ≤ length (now state)) × (heldBy q ≤ 65535) ⌝ }
+    ensures { λ _. ⌜ Written (λ i. getD (noted q mark) i 0) (now (state .entry)) (now (state .exit)) 11 2 ⌝ }
 {
     let held = held_by(q) as u32;
     let last = mark_by(q, mark);
-    state[12] = came;
-    state[13] = held;
-    state[14] = last;
+    state[11] = held;
+    state[12] = last;
 }

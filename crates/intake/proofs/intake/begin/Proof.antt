@@ -30,7 +30,7 @@ open-requires : tie.Need-open-requires
 open-requires c κs =
     let x = c .before .before .before .may-begin in
     let a = c .before .before .before .before .before .before .before .before .before .args in
-    let b = begins-by (a .r) (length (a .tables .now)) (a .k) (a .t) (a .most) (length (a .state .now)) (length (a .pivots .now)) (length (a .rows .now))
+    let b = begins-by (a .r) (length (a .tables .now)) (a .k) (a .t) (length (a .state .now)) (length (a .pivots .now)) (length (a .rows .now))
     (length (a .values .now))
     (told (x .result) (x .ensures) (c .before .enum-told .given .1)) in
     (b .long, b .all)
@@ -49,8 +49,8 @@ returns-2 c =
     let values : Bytes (a .values .now) = λ i. omega (arith, c .before .before .before .before .before .before .before .shared-slice-known4 .given i) in (
       e,
       c .before .before .«open» .ensures,
-      fresh-holds _ _ _ _ _ _ _ _ _ _
-          (begins-by (a .r) (length (a .tables .now)) (a .k) (a .t) (a .most) (length (a .state .now)) (length (a .pivots .now)) (length (a .rows .now))
+      fresh-holds _ _ _ _ _ _ _ _ _
+          (begins-by (a .r) (length (a .tables .now)) (a .k) (a .t) (length (a .state .now)) (length (a .pivots .now)) (length (a .rows .now))
           (length (a .values .now)) e)
           (omega arith) (c .before .before .«open» .ensures) rows values,
     )

@@ -8,8 +8,8 @@ use borrow.Author.Tests.{lt-ltb, le-ltb}
 use lib.Dec.{ltb}
 use Rattle.field.specs.Answer.{Outcome, done, given, unless}
 use Rattle.intake.specs.Night.{storesRoom}
-use Rattle.intake.specs.State.{lIn, mIn, tIn}
-use Rattle.intake.proofs.Refusing.{l-read, measurable, measured, room-passed, room-stopped}
+use Rattle.intake.specs.State.{lIn, tIn}
+use Rattle.intake.proofs.Refusing.{measurable, measured, room-passed, room-stopped}
 use borrow.Author.Needs.{needs}
 use Rattle.intake.proofs.intake.may_ask.Statement.{statement}
 use Rattle.intake.proofs.intake.may_ask.Tie as tie
@@ -20,29 +20,14 @@ shared-slice-read-t c = search needs
 cast-t : tie.Need-cast-t
 cast-t c = search needs
 
-row-in-requires : tie.Need-row-in-requires
-row-in-requires c κs = search needs
+shared-slice-read-l : tie.Need-shared-slice-read-l
+shared-slice-read-l c = search needs
 
 cast-l : tie.Need-cast-l
 cast-l c = search needs
 
-shared-slice-read-m : tie.Need-shared-slice-read-m
-shared-slice-read-m c = search needs
-
-shared-slice-read-m-2 : tie.Need-shared-slice-read-m-2
-shared-slice-read-m-2 c = search needs
-
-cast-m : tie.Need-cast-m
-cast-m c = search needs
-
-m-requires : tie.Need-m-requires
-m-requires c κs =
-    let i = c .before .before .before in
-    let p = i .before .before .before .pre in
-    rw (i .row-in .ensures) (p .rules, p .counts .k-high, p .counts .most-high)
-
 room-requires : tie.Need-room-requires
-room-requires c κs = let i = c .before .before .before .before in measurable (i .before .before .before .pre) (i .row-in .ensures) (c .m .ensures)
+room-requires c κs = measurable (c .before .before .before .pre)
 
 enum-told : tie.Need-enum-told
 enum-told c = search needs
@@ -51,13 +36,13 @@ enum-told-2 : tie.Need-enum-told-2
 enum-told-2 c = search needs
 
 abbrev entry : tie.After-room → tie.Start
-entry c = c .before .before .before .before .before .before .before .before
+entry c = c .before .before .before .before
 
 -- the stores, and what is asked past them
 abbrev stores : tie.After-room → Outcome (Unit {0}) → Outcome (Unit {0})
 stores c =
     let a = entry c .args in
-    let st = a .state .now in storesRoom (mIn st) (lIn st) (tIn st) (a .rows) (a .values)
+    let st = a .state .now in storesRoom (lIn st) (tIn st) (a .rows) (a .values)
 
 abbrev last : tie.After-room → Outcome (Unit {0})
 last c =
@@ -67,38 +52,35 @@ last c =
 measures : (c : tie.After-room) → done (c .room .result) ≡ stores c (given tt)
 measures c =
     let s = entry c in
-    measured (s .args .rows) (s .args .values) (s .pre) (c .before .before .before .before .before .row-in .ensures) (c .before .m .ensures) (c .room .ensures)
+    measured (s .args .rows) (s .args .values) (s .pre) (c .room .ensures)
 
 passed : (c : tie.After-enum-told) → stores (c .before .before) (last (c .before .before)) ≡ last (c .before .before)
 passed c =
     let v = c .before .before in
     let a = entry v .args in
     let st = a .state .now in
-    room-passed (mIn st) (lIn st) (tIn st) (a .rows) (a .values) (last v) (v .room .result) (measures v) (c .enum-told .given .1)
+    room-passed (lIn st) (tIn st) (a .rows) (a .values) (last v) (v .room .result) (measures v) (c .enum-told .given .1)
 
 returns : tie.Need-returns
 returns c =
     let v = c .before .before in
     let a = entry v .args in
     let st = a .state .now in
-    room-stopped (mIn st) (lIn st) (tIn st) (a .rows) (a .values) (last v) (v .room .result) (measures v) _ (c .enum-told2 .given .1)
+    room-stopped (lIn st) (tIn st) (a .rows) (a .values) (last v) (v .room .result) (measures v) _ (c .enum-told2 .given .1)
 
 mul-if1 : tie.Need-mul-if1
 mul-if1 c =
-    let i = c .before .before .before .before .before .before .before in
-    let b = measurable (i .before .before .before .pre) (i .row-in .ensures) (c .before .before .before .m .ensures) in
-    omega (arith, mul-le-mul (b .1) (b .2))
+    let b = measurable (c .before .before .before .before .before .before .pre) in
+    omega (arith, mul-le-mul (b .0) (b .1))
 
 returns-2 : tie.Need-returns-2
 returns-2 c =
-    let i = c .before .before .before .before .before .before .before .before in
-    let h = rw (l-read (i .row-in .ensures) (i .before .before .before .pre .rules)) at (c .if1 .taken) in
+    let h = rw (c .before .before .before .before .before .before .before .pre .rules .derived .l-fits) at (c .if1 .taken) in
     sym (passed (c .before) ∙ simp (lt-ltb _ _ h))
 
 returns-3 : tie.Need-returns-3
 returns-3 c =
-    let i = c .before .before .before .before .before .before .before .before in
-    let h = rw (l-read (i .row-in .ensures) (i .before .before .before .pre .rules)) at (c .if1 .left) in
+    let h = rw (c .before .before .before .before .before .before .before .pre .rules .derived .l-fits) at (c .if1 .left) in
     sym (passed (c .before) ∙ simp (le-ltb _ _ h))
 
 pub may-ask-spec : {M : Type 1} → statement M
@@ -107,12 +89,8 @@ may-ask-spec =
     (tie.spec
     shared-slice-read-t
     cast-t
-    row-in-requires
+    shared-slice-read-l
     cast-l
-    shared-slice-read-m
-    shared-slice-read-m-2
-    cast-m
-    m-requires
     room-requires
     enum-told
     enum-told-2

@@ -9,7 +9,6 @@ use Rattle.field.specs.Answer.{Outcome, done, given, unless, before}
 use Rattle.field.proofs.Refusals.{stopped, told}
 use Rattle.headers.specs.Row.{Obeys, verified, lOf}
 use Rattle.headers.proofs.Rules.{obeyed, obeying}
-use Rattle.solver.specs.System.{equations}
 use Rattle.intake.specs.Night.{beginnable, storesRoom}
 use Rattle.intake.proofs.Refusing.{room-passed, room-stopped}
 use borrow.Author.Needs.{needs}
@@ -57,30 +56,16 @@ returns-5 c =
       eq-eqb _ _ (c .before .before .before .before .if1 .left),
       le-ltb _ _ (c .before .before .before .if2 .left),
       le-ltb _ _ (c .before .if3 .left),
-      lt-ltb _ _ (c .if4 .taken),
-    )
-
-returns-6 : tie.Need-returns-6
-returns-6 c =
-    simp (
-      obeyed (fine (c .before .before .before .before .before .before)),
-      eq-eqb _ _ (c .before .before .before .before .before .if1 .left),
-      le-ltb _ _ (c .before .before .before .before .if2 .left),
-      le-ltb _ _ (c .before .before .if3 .left),
-      le-ltb 65535 _ (c .before .if4 .left),
-      eq-eqb _ _ (c .if5 .taken),
+      eq-eqb _ _ (c .if4 .taken),
     )
 
 cast-l : tie.Need-cast-l
 cast-l c = search needs
 
-m-requires : tie.Need-m-requires
-m-requires c κs = (fine (c .before .before .before .before .before .before .before), c .before .before .before .if3 .left, c .before .before .if4 .left)
-
 room-requires : tie.Need-room-requires
 room-requires c κs =
-    let o = fine (c .before .before .before .before .before .before .before .before) in
-    (omega (arith, c .m .ensures, o .l-high, c .before .before .before .if4 .left), omega (arith, o .l-high, o .derived .l-fits), omega arith)
+    let o = fine (c .before .before .before .before .before .before) in
+    (omega (arith, o .l-high, o .derived .l-fits), omega arith)
 
 enum-told-3 : tie.Need-enum-told-3
 enum-told-3 c = search needs
@@ -89,69 +74,66 @@ enum-told-4 : tie.Need-enum-told-4
 enum-told-4 c = search needs
 
 abbrev entry : tie.After-room → tie.Start
-entry c = c .before .before .before .before .before .before .before .before .before .before .before .before
+entry c = c .before .before .before .before .before .before .before .before .before .before
 
 -- the stores, and what is asked past them
 abbrev stores : tie.After-room → Outcome (Unit {0}) → Outcome (Unit {0})
-stores c = let a = entry c .args in storesRoom (equations (a .r) (a .k) (a .most)) (lOf (a .r)) (a .t) (a .rows) (a .values)
+stores c = let a = entry c .args in storesRoom (lOf (a .r)) (a .t) (a .rows) (a .values)
 
 abbrev last : tie.After-room → Outcome (Unit {0})
-last c = let a = entry c .args in unless (ltb (a .state) 1039) 8 (unless (ltb (a .pivots) (lOf (a .r))) 8 (given tt))
+last c = let a = entry c .args in unless (ltb (a .state) 1037) 8 (unless (ltb (a .pivots) (lOf (a .r))) 8 (given tt))
 
 measures : (c : tie.After-room) → done (c .room .result) ≡ stores c (given tt)
 measures c =
-    let d = fine (c .before .before .before .before .before .before .before .before .before) .derived in
-    rw (c .before .m .ensures, d .l-fits) at (c .room .ensures)
+    let d = fine (c .before .before .before .before .before .before .before) .derived in
+    rw (d .l-fits) at (c .room .ensures)
 
 -- none of the tests before them refused
 fore : (c : tie.After-room) (o : Outcome (Unit {0}))
     → let a = entry c .args in
-    before (verified (a .r)) (unless (not (eqb (a .tables) 1024)) 5 (unless (ltb (a .k) 1) 9 (unless (ltb (a .r .kp) (a .k)) 9 (unless (ltb 65535 (a .most)) 9
-    (unless (eqb (a .t) 0) 10 o))))) ≡ o
+    before (verified (a .r)) (unless (not (eqb (a .tables) 1024)) 5 (unless (ltb (a .k) 1) 9 (unless (ltb (a .r .kp) (a .k)) 9
+    (unless (eqb (a .t) 0) 10 o)))) ≡ o
 fore c o =
     simp (
-      obeyed (fine (c .before .before .before .before .before .before .before .before .before)),
-      eq-eqb _ _ (c .before .before .before .before .before .before .before .before .if1 .left),
-      le-ltb _ _ (c .before .before .before .before .before .before .before .if2 .left),
-      le-ltb _ _ (c .before .before .before .before .before .if3 .left),
-      le-ltb 65535 _ (c .before .before .before .before .if4 .left),
-      ne-eqb _ _ (c .before .before .before .if5 .left),
+      obeyed (fine (c .before .before .before .before .before .before .before)),
+      eq-eqb _ _ (c .before .before .before .before .before .before .if1 .left),
+      le-ltb _ _ (c .before .before .before .before .before .if2 .left),
+      le-ltb _ _ (c .before .before .before .if3 .left),
+      ne-eqb _ _ (c .before .before .if4 .left),
     )
 
 -- nor did they
 passed : (c : tie.After-enum-told3)
     → let v = c .before .before in
     let a = entry v .args in
-    beginnable (a .r) (a .tables) (a .k) (a .t) (a .most) (a .state) (a .pivots) (a .rows) (a .values) ≡ last v
+    beginnable (a .r) (a .tables) (a .k) (a .t) (a .state) (a .pivots) (a .rows) (a .values) ≡ last v
 passed c =
     let v = c .before .before in
     let a = entry v .args in
-    let m = equations (a .r) (a .k) (a .most) in
     fore v (stores v (last v))
-    ∙ room-passed m (lOf (a .r)) (a .t) (a .rows) (a .values) (last v) (v .room .result) (measures v) (c .enum-told3 .given .1)
+    ∙ room-passed (lOf (a .r)) (a .t) (a .rows) (a .values) (last v) (v .room .result) (measures v) (c .enum-told3 .given .1)
 
-returns-7 : tie.Need-returns-7
-returns-7 c =
+returns-6 : tie.Need-returns-6
+returns-6 c =
     let v = c .before .before in
     let a = entry v .args in
-    let m = equations (a .r) (a .k) (a .most) in
-    room-stopped m (lOf (a .r)) (a .t) (a .rows) (a .values) (last v) (v .room .result) (measures v) _ (c .enum-told4 .given .1)
+    room-stopped (lOf (a .r)) (a .t) (a .rows) (a .values) (last v) (v .room .result) (measures v) _ (c .enum-told4 .given .1)
     ∙ sym (fore v (stores v (last v)))
 
+returns-7 : tie.Need-returns-7
+returns-7 c = sym (passed (c .before) ∙ simp (lt-ltb _ _ (c .if5 .taken)))
+
 returns-8 : tie.Need-returns-8
-returns-8 c = sym (passed (c .before) ∙ simp (lt-ltb _ _ (c .if6 .taken)))
+returns-8 c =
+    let e = c .before .before in
+    let h = rw (fine (e .before .before .before .before .before .before .before .before .before) .derived .l-fits) at (c .if6 .taken) in
+    sym (passed e ∙ simp (le-ltb _ _ (c .before .if5 .left), lt-ltb _ _ h))
 
 returns-9 : tie.Need-returns-9
 returns-9 c =
     let e = c .before .before in
-    let h = rw (fine (e .before .before .before .before .before .before .before .before .before .before .before) .derived .l-fits) at (c .if7 .taken) in
-    sym (passed e ∙ simp (le-ltb _ _ (c .before .if6 .left), lt-ltb _ _ h))
-
-returns-10 : tie.Need-returns-10
-returns-10 c =
-    let e = c .before .before in
-    let h = rw (fine (e .before .before .before .before .before .before .before .before .before .before .before) .derived .l-fits) at (c .if7 .left) in
-    sym (passed e ∙ simp (le-ltb _ _ (c .before .if6 .left), le-ltb _ _ h))
+    let h = rw (fine (e .before .before .before .before .before .before .before .before .before) .derived .l-fits) at (c .if6 .left) in
+    sym (passed e ∙ simp (le-ltb _ _ (c .before .if5 .left), le-ltb _ _ h))
 
 pub may-begin-spec : {M : Type 1} → statement M
 may-begin-spec =
@@ -165,13 +147,11 @@ may-begin-spec =
     returns-3
     returns-4
     returns-5
-    returns-6
     cast-l
-    m-requires
     room-requires
     enum-told-3
     enum-told-4
+    returns-6
     returns-7
     returns-8
-    returns-9
-    returns-10)
+    returns-9)

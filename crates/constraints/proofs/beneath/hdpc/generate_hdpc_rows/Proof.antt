@@ -1,12 +1,12 @@
 -- `constraints::beneath::hdpc::generate_hdpc_rows` meets its contract: the columns from c on are filled, first those of the identity, then the
 -- powers of alpha, then each from the one to its right.
 -- Assumes nothing.
-use mathlib.Core.Path.{sym, ap₂}
-use Prim.Native.Nat.{ℕ, _+_, _-_, _%_, _<_, _≤_}
+use mathlib.Core.Path.{sym}
+use Prim.Native.Nat.{_-_, _<_, _≤_}
 use native.Mathlib.Omega.{arith}
 use borrow.Author.Needs.{needs}
 use Rattle.constraints.specs.Grid.{FilledFrom}
-use Rattle.constraints.specs.Hdpc.{hdpc, first, second}
+use Rattle.constraints.specs.Hdpc.{hdpc}
 use Rattle.constraints.proofs.Grid.{filled-more, filled-self, filled-trans, filled-all}
 use Rattle.constraints.proofs.Product.{hdpc-unit, hdpc-last, next-is}
 use Rattle.constraints.proofs.beneath.hdpc.generate_hdpc_rows.Statement.{statement}
@@ -74,41 +74,11 @@ loop2-holds c = (omega arith, filled-self (after-alpha c))
 sub-c-3 : tie.Need-sub-c-3 Inv-loop μ-loop Inv-loop2 μ-loop2
 sub-c-3 c = search needs
 
-add-y : tie.Need-add-y Inv-loop μ-loop Inv-loop2 μ-loop2
-add-y c = search needs
+first-one-requires : tie.Need-first-one-requires Inv-loop μ-loop Inv-loop2 μ-loop2
+first-one-requires c κs = search needs
 
-cast-y : tie.Need-cast-y Inv-loop μ-loop Inv-loop2 μ-loop2
-cast-y c = search needs
-
-cast-rand : tie.Need-cast-rand Inv-loop μ-loop Inv-loop2 μ-loop2
-cast-rand c = search needs
-
-rand-requires : tie.Need-rand-requires Inv-loop μ-loop Inv-loop2 μ-loop2
-rand-requires c κs = search needs
-
-cast-a : tie.Need-cast-a Inv-loop μ-loop Inv-loop2 μ-loop2
-cast-a c = search needs
-
-sub-rand : tie.Need-sub-rand Inv-loop μ-loop Inv-loop2 μ-loop2
-sub-rand c = search needs
-
-cast-rand-2 : tie.Need-cast-rand-2 Inv-loop μ-loop Inv-loop2 μ-loop2
-cast-rand-2 c = search needs
-
-rand-requires-2 : tie.Need-rand-requires-2 Inv-loop μ-loop Inv-loop2 μ-loop2
-rand-requires-2 c κs = search needs
-
-cast-b : tie.Need-cast-b Inv-loop μ-loop Inv-loop2 μ-loop2
-cast-b c = search needs
-
-add-b : tie.Need-add-b Inv-loop μ-loop Inv-loop2 μ-loop2
-add-b c = search needs
-
-add-b-2 : tie.Need-add-b-2 Inv-loop μ-loop Inv-loop2 μ-loop2
-add-b-2 c = search needs
-
-rem-b : tie.Need-rem-b Inv-loop μ-loop Inv-loop2 μ-loop2
-rem-b c = search needs
+second-one-requires : tie.Need-second-one-requires Inv-loop μ-loop Inv-loop2 μ-loop2
+second-one-requires c κs = search needs
 
 next-column-requires : tie.Need-next-column-requires Inv-loop μ-loop Inv-loop2 μ-loop2
 next-column-requires c κs = search needs
@@ -117,16 +87,14 @@ loop2-less : tie.Need-loop2-less Inv-loop μ-loop Inv-loop2 μ-loop2
 loop2-less c = search needs
 
 loop2-again : tie.Need-loop2-again Inv-loop μ-loop Inv-loop2 μ-loop2
-unfolding first second
 loop2-again c =
-    let s = c .before .before .before .before .before .before .before in
-    let e = c .before .before .before .before .before in
-    let a = s .before .before .before .before .before .before .before .before .before .args in (
+    let s = c .before .before .before .before .before .before .before in (
       omega arith,
       filled-more (s .loop2 .inv .1) (omega arith) (omega arith) (c .before .before .next-column .ensures)
           (λ r h.
-          next-is _ _ _ _ (s .loop2 .inv .1) (omega arith) (omega arith) (omega arith) (omega arith) h (e .rand .ensures .0)
-          (ap₂ (λ (x y : ℕ). (x + y + 1) % a .h) (e .rand .ensures .0) (c .before .before .before .before .rand2 .ensures .0))),
+          next-is _ _ _ _ (s .loop2 .inv .1) (omega arith) (omega arith) (omega arith) (omega arith) h
+          (c .before .before .before .before .before .first-one .ensures .0)
+          (c .before .before .before .before .second-one .ensures)),
     )
 
 same-length : tie.Need-same-length Inv-loop μ-loop Inv-loop2 μ-loop2
@@ -154,18 +122,8 @@ generate-hdpc-rows-spec =
     alpha-column-requires
     loop2-holds
     sub-c-3
-    add-y
-    cast-y
-    cast-rand
-    rand-requires
-    cast-a
-    sub-rand
-    cast-rand-2
-    rand-requires-2
-    cast-b
-    add-b
-    add-b-2
-    rem-b
+    first-one-requires
+    second-one-requires
     next-column-requires
     loop2-less
     loop2-again

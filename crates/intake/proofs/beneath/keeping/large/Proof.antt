@@ -5,7 +5,7 @@ use native.Mathlib.Omega.{arith}
 use lib.Seq.{length-take-le}
 use Rattle.linear.specs.Bytes.{Bytes}
 use Rattle.field.specs.Runs.{zeroFrom}
-use Rattle.intake.proofs.Packets.{tables-long, l-small, wide-as, held-small, packet-takable, packet-adds, clash-stays}
+use Rattle.intake.proofs.Packets.{tables-long, l-small, wide-as, held-small, packet-takable, packet-adds}
 use Rattle.intake.proofs.Stretches.{packet-within, packet-holds}
 use borrow.Author.Needs.{needs}
 use Rattle.intake.proofs.beneath.keeping.large.Statement.{statement}
@@ -29,9 +29,6 @@ row-in-requires c κs = search needs
 slice-read-k : tie.Need-slice-read-k
 slice-read-k c = search needs
 
-slice-read-came : tie.Need-slice-read-came
-slice-read-came c = search needs
-
 slice-read-mark : tie.Need-slice-read-mark
 slice-read-mark c = search needs
 
@@ -47,9 +44,9 @@ part-lay-packet-end c = search needs
 lay-packet-requires : tie.Need-lay-packet-requires
 lay-packet-requires c κs =
     let at12 = c .before .before .before .before .before .before .before .before .before .before .before .before in
-    let s = at12 .before .before .before .before in
+    let s = at12 .before .before .before in
     let n = s .pre .0 .begun .numbers in
-    rw (c .before .before .before .before .before .before .before .row-in .ensures) (
+    rw (c .before .before .before .before .before .before .row-in .ensures) (
       n .rules,
       tables-long (s .args .state .now) (n .size),
       n .counts .k-low,
@@ -57,53 +54,37 @@ lay-packet-requires c κs =
       s .pre .0 .esi,
       record {
         row = length-take-le (s .args .l) _ (s .pre .3) ∙ s .pre .1;
-        symbol = length-take-le (s .args .t) _ (s .pre .4) ∙ s .pre .2 ∙ sym
-            (s .pre .0 .size);
+        symbol = length-take-le (s .args .t) _ (s .pre .4) ∙ s .pre .2 ∙ sym (s .pre .0 .size);
       },
     )
 
 progress-in-requires : tie.Need-progress-in-requires
 progress-in-requires c κs =
     let at12 = c .before .before .before .before .before .before .before .before .before .before .before .before in
-    at12 .before .before .before .before .before .before .before .before .before .before .pre .0 .begun .numbers .size
+    at12 .before .before .before .before .before .before .before .before .before .pre .0 .begun .numbers .size
 
 take-next-requires : tie.Need-take-next-requires
 take-next-requires c κs =
     let at12 = c .before .before .before .before .before .before .before .before .before .before .before .before in
     let at24 = at12 .before .before .before .before .before .before .before .before .before .before .before .before in
-    let s = at24 .before .before in
-    let q = at12 .before .before .before .before .before .row-in .ensures in
+    let s = at24 .before in
     let l = c .before .before .before .before .before .before .before .before .before .lay-packet in
     let t = s .pre .0 .size ∙ sym (s .pre .2) in (
-      (packet-takable (s .pre .0) _ _ (s .pre .1) (s .pre .2) (c .before .before .before .progress-in .ensures), s .pre .3),
+      packet-takable (s .pre .0) _ _ (s .pre .1) (s .pre .2) (c .before .before .before .progress-in .ensures),
       (
-        wide-as (s .args .state .now) (s .args .symbol .now) q (s .pre .1) t (l .ensures .0),
-        subst
-            (λ n. l .result ≡ zeroFrom (l .last .1 .1 .1 .1 .1 .1 .0) 0 n) t (l .ensures .1 .1 .1),
+        wide-as (s .args .state .now) (s .args .symbol .now) (at12 .before .before .before .before .row-in .ensures) (s .pre .1) t (l .ensures .0),
+        subst (λ n. l .result ≡ zeroFrom (l .last .1 .1 .1 .1 .1 .1 .0) 0 n) t (l .ensures .1 .1 .1),
       ),
     )
-
-add-note : tie.Need-add-note
-add-note c =
-    let at12 = c .before .before .before .before .before .before .before .before .before .before .before .before in
-    let at24 = at12 .before .before .before .before .before .before .before .before .before .before .before .before in
-    let at36 = at24 .before .before .before .before .before .before .before .before .before .before .before .before in
-    let s = at36 in omega (arith, s .pre .0 .more, s .pre .0 .begun .numbers .counts .most-high)
 
 note-requires : tie.Need-note-requires
 note-requires c κs =
     let at12 = c .before .before .before .before .before .before .before .before .before .before .before .before in
     let at24 = at12 .before .before .before .before .before .before .before .before .before .before .before .before in
-    let at36 = at24 .before .before .before .before .before .before .before .before .before .before .before .before in
-    let s = at36 in
+    let s = at24 .before .before .before .before .before .before .before .before .before .before .before in
     let n = s .pre .0 .begun .numbers in
-    let l = at12 .before .before .before .before .before .before .before .lay-packet in
     let t = c .before .before .before .before .before .before .before .before .before .take-next in
-    let adds = packet-adds (s .pre .0) _ _ (s .pre .1) (s .pre .2) (at12 .before .progress-in .ensures) (l .last .1 .1 .1 .1 .1 .0)
-    (l .last .1 .1 .1 .1 .1 .1 .0)
-    (t .last .1 .1 .0) (t .last .0) (t .last .1 .0) (t .result) (at24 .before .before .before .row-in .ensures) (l .ensures .1 .0) (l .ensures .1 .1 .0)
-    (t .ensures) in
-    (n .size, held-small _ _ _ (t .result) (l-small n) (adds .placed))
+    (n .size, held-small _ _ (t .result) (omega (arith, s .pre .1, l-small n)) (t .ensures .placed))
 
 same-length : tie.Need-same-length
 same-length c = search needs
@@ -122,20 +103,15 @@ returns c =
     let at12 = c .before .before .before .before .before .before .before .before .before .before .before .before in
     let at24 = at12 .before .before .before .before .before .before .before .before .before .before .before .before in
     let at36 = at24 .before .before .before .before .before .before .before .before .before .before .before .before in
-    let s = at36 .before .before .before in
+    let s = at36 .before .before in
     let l = at12 .before .before .before .before .before .before .before .before .before .before .lay-packet in
-    let t = at12 .take-next in
-    let p = at12 .before .before .before .before .progress-in in
-    let a = s .args in
-    let x = l .last .1 .1 .1 .1 .1 .0 in
-    let y = l .last .1 .1 .1 .1 .1 .1 .0 in
-    let adds = packet-adds (s .pre .0) _ _ (s .pre .1) (s .pre .2) (p .ensures) x y (t .last .1 .1 .0) (t .last .0) (t .last .1 .0) (t .result)
-    (at24 .before .before .before .before .before .before .row-in .ensures) (l .ensures .1 .0) (l .ensures .1 .1 .0) (t .ensures) in
-    let clash = clash-stays _ _ (a .state .now) (a .pivots .now) (a .rows .now) (a .values .now) x y (t .last .1 .1 .0) (t .last .0) (t .last .1 .0)
-    (p .result) (t .result) (p .ensures) (t .ensures) in
-    let bytes : Bytes (a .symbol .now) = λ i. omega (arith, at36 .before .before .shared-slice-known .given i) in (
-      packet-within _ _ _ _ _ _ _ _ _ _ (t .result) (s .pre .0) bytes (c .before .before .note .ensures) clash adds,
-      packet-holds _ _ _ _ _ _ _ _ _ _ (t .result) (s .pre .0) bytes (c .before .before .note .ensures) clash adds,
+    let t = c .before .before .before .before .before .before .before .before .before .before .before .before .take-next in
+    let adds = packet-adds (s .pre .0) _ _ (s .pre .1) (s .pre .2) (at12 .before .before .before .before .progress-in .ensures)
+    (l .last .1 .1 .1 .1 .1 .0) (l .last .1 .1 .1 .1 .1 .1 .0) (t .last .1 .1 .0) (t .last .0) (t .last .1 .0) (t .result) (at24 .before .before .before .before .before .row-in .ensures)
+    (l .ensures .1 .0) (l .ensures .1 .1 .0) (t .ensures) in
+    let bytes : Bytes (s .args .symbol .now) = λ i. omega (arith, at36 .before .shared-slice-known .given i) in (
+      packet-within _ _ _ _ _ _ _ _ _ _ (t .result) (s .pre .0) bytes (c .before .before .note .ensures) adds,
+      packet-holds _ _ _ _ _ _ _ _ _ _ (t .result) (s .pre .0) bytes (c .before .before .note .ensures) adds,
     )
 
 pub large-spec : {M : Type 1} → statement M
@@ -148,7 +124,6 @@ large-spec =
     slice-aggregate-buffer
     row-in-requires
     slice-read-k
-    slice-read-came
     slice-read-mark
     sub-lay-packet
     part-lay-packet-start
@@ -156,7 +131,6 @@ large-spec =
     lay-packet-requires
     progress-in-requires
     take-next-requires
-    add-note
     note-requires
     same-length
     same-length-2

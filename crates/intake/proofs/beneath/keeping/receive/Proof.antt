@@ -3,7 +3,7 @@
 use mathlib.Core.Path.{refl, sym, _∙_}
 use native.Mathlib.Omega.{arith}
 use Rattle.linear.specs.Bytes.{Bytes}
-use Rattle.intake.proofs.Packets.{tables-long, l-small, own-l, wide-as, held-small, packet-takable, packet-adds, clash-stays}
+use Rattle.intake.proofs.Packets.{tables-long, l-small, own-l, wide-as, held-small, packet-takable, packet-adds}
 use Rattle.intake.proofs.Stretches.{packet-within, packet-holds}
 use borrow.Author.Needs.{needs}
 use Rattle.intake.proofs.beneath.keeping.receive.Statement.{statement}
@@ -14,9 +14,6 @@ row-in-requires c κs = search needs
 
 slice-read-k : tie.Need-slice-read-k
 slice-read-k c = search needs
-
-slice-read-came : tie.Need-slice-read-came
-slice-read-came c = search needs
 
 slice-read-mark : tie.Need-slice-read-mark
 slice-read-mark c = search needs
@@ -32,9 +29,10 @@ part-lay-packet-end c = search needs
 
 lay-packet-requires : tie.Need-lay-packet-requires
 lay-packet-requires c κs =
-    let s = c .before .before .before .before .before .before .before .before .before .before .before .before .before .before .before .before in
+    let at12 = c .before .before .before .before .before .before .before .before .before .before .before .before in
+    let s = at12 .before .before .before in
     let n = s .pre .0 .begun .numbers in
-    rw (c .before .before .before .before .before .before .before .row-in .ensures) (
+    rw (c .before .before .before .before .before .before .row-in .ensures) (
       n .rules,
       tables-long (s .args .state .now) (n .size),
       n .counts .k-low,
@@ -43,51 +41,35 @@ lay-packet-requires c κs =
       record { row = s .pre .1 .row; symbol = s .pre .1 .symbol ∙ sym (s .pre .0 .size) },
     )
 
-cast-take-next : tie.Need-cast-take-next
-cast-take-next c = search needs
-
 progress-in-requires : tie.Need-progress-in-requires
 progress-in-requires c κs =
     let at12 = c .before .before .before .before .before .before .before .before .before .before .before .before in
-    at12 .before .before .before .before .before .before .before .before .before .before .pre .0 .begun .numbers .size
+    at12 .before .before .before .before .before .before .before .before .before .pre .0 .begun .numbers .size
+
+cast-take-next : tie.Need-cast-take-next
+cast-take-next c = search needs
 
 take-next-requires : tie.Need-take-next-requires
 take-next-requires c κs =
     let at12 = c .before .before .before .before .before .before .before .before .before .before .before .before in
     let at24 = at12 .before .before .before .before .before .before .before .before .before .before .before .before in
-    let s = at24 .before .before .before .before .before in
+    let s = at24 .before .before .before .before in
     let n = s .pre .0 .begun .numbers in
-    let q = at12 .before .before .before .before .before .before .before .before .row-in .ensures in
-    let l = at12 .lay-packet .ensures in (
-      (
-        packet-takable (s .pre .0) _ _ (own-l n q) (s .pre .0 .size) (c .before .before .before .before .before .before .progress-in .ensures),
-        omega
-            (arith, own-l n q, l-small n),
-      ),
+    let q = at12 .before .before .before .before .before .before .before .row-in .ensures in
+    let l = c .before .before .before .before .before .before .before .before .before .before .before .before .lay-packet .ensures in (
+      packet-takable (s .pre .0) _ _ (own-l n q) (s .pre .0 .size) (c .before .before .before .before .before .before .progress-in .ensures),
       (wide-as (s .args .state .now) (s .args .symbol .now) q (own-l n q) refl (l .0), l .1 .1 .1),
     )
-
-add-note : tie.Need-add-note
-add-note c =
-    let at12 = c .before .before .before .before .before .before .before .before .before .before .before .before in
-    let at24 = at12 .before .before .before .before .before .before .before .before .before .before .before .before in
-    let at36 = at24 .before .before .before .before .before .before .before .before .before .before .before .before in
-    let s = at36 .before .before .before .before .before in omega (arith, s .pre .0 .more, s .pre .0 .begun .numbers .counts .most-high)
 
 note-requires : tie.Need-note-requires
 note-requires c κs =
     let at12 = c .before .before .before .before .before .before .before .before .before .before .before .before in
     let at24 = at12 .before .before .before .before .before .before .before .before .before .before .before .before in
     let at36 = at24 .before .before .before .before .before .before .before .before .before .before .before .before in
-    let s = at36 .before .before .before .before .before in
+    let s = at36 .before .before .before .before in
     let n = s .pre .0 .begun .numbers in
-    let l = at24 .lay-packet in
     let t = c .before .before .before .before .before .before .before .before .before .before .before .take-next in
-    let q = at24 .before .before .before .before .before .before .before .before .row-in .ensures in
-    let adds = packet-adds (s .pre .0) _ _ (own-l n q) (s .pre .0 .size) (at12 .before .before .before .before .before .before .progress-in .ensures)
-    (l .last .1 .1 .1 .1 .1 .0) (l .last .1 .1 .1 .1 .1 .1 .0)
-    (t .last .1 .1 .0) (t .last .0) (t .last .1 .0) (t .result) q (l .ensures .1 .0) (l .ensures .1 .1 .0) (t .ensures) in
-    (n .size, held-small _ _ _ (t .result) (l-small n) (adds .placed))
+    (n .size, held-small _ _ (t .result) (omega (arith, own-l n (at24 .before .before .before .before .before .before .before .row-in .ensures), l-small n)) (t .ensures .placed))
 
 same-length : tie.Need-same-length
 same-length c = search needs
@@ -112,22 +94,17 @@ returns c =
     let at12 = c .before .before .before .before .before .before .before .before .before .before .before .before in
     let at24 = at12 .before .before .before .before .before .before .before .before .before .before .before .before in
     let at36 = at24 .before .before .before .before .before .before .before .before .before .before .before .before in
-    let s = at36 .before .before .before .before .before .before .before .before in
+    let s = at36 .before .before .before .before .before .before .before in
     let l = at24 .before .before .before .lay-packet in
     let t = at12 .before .before .take-next in
-    let p = at12 .before .before .before .before .before .before .before .before .before .progress-in in
-    let a = s .args in
-    let x = l .last .1 .1 .1 .1 .1 .0 in
-    let y = l .last .1 .1 .1 .1 .1 .1 .0 in
-    let q = at24 .before .before .before .before .before .before .before .before .before .before .before .row-in .ensures in
-    let adds = packet-adds (s .pre .0) _ _ (own-l (s .pre .0 .begun .numbers) q) (s .pre .0 .size) (p .ensures) x y (t .last .1 .1 .0) (t .last .0)
-    (t .last .1 .0) (t .result) q
+    let q = at24 .before .before .before .before .before .before .before .before .before .before .row-in .ensures in
+    let p = at12 .before .before .before .before .before .before .before .before .before .progress-in .ensures in
+    let adds = packet-adds (s .pre .0) _ _ (own-l (s .pre .0 .begun .numbers) q) (s .pre .0 .size) p
+    (l .last .1 .1 .1 .1 .1 .0) (l .last .1 .1 .1 .1 .1 .1 .0) (t .last .1 .1 .0) (t .last .0) (t .last .1 .0) (t .result) q
     (l .ensures .1 .0) (l .ensures .1 .1 .0) (t .ensures) in
-    let clash = clash-stays _ _ (a .state .now) (a .pivots .now) (a .rows .now) (a .values .now) x y (t .last .1 .1 .0) (t .last .0) (t .last .1 .0)
-    (p .result) (t .result) (p .ensures) (t .ensures) in
-    let bytes : Bytes (a .symbol .now) = λ i. omega (arith, at36 .before .before .before .before .before .before .before .shared-slice-known .given i) in (
-      packet-within _ _ _ _ _ _ _ _ _ _ (t .result) (s .pre .0) bytes (c .before .before .note .ensures) clash adds,
-      packet-holds _ _ _ _ _ _ _ _ _ _ (t .result) (s .pre .0) bytes (c .before .before .note .ensures) clash adds,
+    let bytes : Bytes (s .args .symbol .now) = λ i. omega (arith, at36 .before .before .before .before .before .before .shared-slice-known .given i) in (
+      packet-within _ _ _ _ _ _ _ _ _ _ (t .result) (s .pre .0) bytes (c .before .before .note .ensures) adds,
+      packet-holds _ _ _ _ _ _ _ _ _ _ (t .result) (s .pre .0) bytes (c .before .before .note .ensures) adds,
     )
 
 pub receive-spec : {M : Type 1} → statement M
@@ -136,7 +113,6 @@ receive-spec =
     (tie.spec
     row-in-requires
     slice-read-k
-    slice-read-came
     slice-read-mark
     sub-lay-packet
     part-lay-packet-start
@@ -145,7 +121,6 @@ receive-spec =
     progress-in-requires
     cast-take-next
     take-next-requires
-    add-note
     note-requires
     same-length
     same-length-2

@@ -4,7 +4,7 @@ use native.Mathlib.Omega.{arith}
 use Rattle.headers.specs.Row.{Obeys}
 use Rattle.headers.specs.Told.{Told}
 use Rattle.headers.proofs.Tests.{granted, denied}
-use Rattle.intake.specs.State.{Counts, Numbers, rowIn, kIn, tIn, mostIn, cameIn, markIn, lIn, takenIn, progressIn}
+use Rattle.intake.specs.State.{Counts, Numbers, rowIn, kIn, tIn, markIn, lIn, progressIn}
 use Rattle.intake.specs.Taking.{Placed}
 use Rattle.intake.proofs.Refusing.{row-kept, row-broken, l-read, placed-told}
 use borrow.Author.Needs.{needs}
@@ -46,12 +46,6 @@ shared-slice-read-counts-2 c = search needs
 shared-slice-read-counts-3 : tie.Need-shared-slice-read-counts-3
 shared-slice-read-counts-3 c = search needs
 
-shared-slice-read-counts-4 : tie.Need-shared-slice-read-counts-4
-shared-slice-read-counts-4 c = search needs
-
-shared-slice-read-counts-5 : tie.Need-shared-slice-read-counts-5
-shared-slice-read-counts-5 c = search needs
-
 counts-requires : tie.Need-counts-requires
 counts-requires c κs = search needs
 
@@ -64,24 +58,21 @@ row c = let v = c .before .before in row-kept (v .verify .result) (v .before .ro
 
 -- what the test of the numbers beside it tells
 counted : (c : tie.After-counts)
-    → let st = entry (c .before .before .before .before .before .before .before .before) .args .state .now in
-    Told (c .counts .result) (Counts (rowIn st .kp) (kIn st) (tIn st) (mostIn st) (cameIn st) (markIn st))
-counted c = rw (c .before .before .before .before .before .before .before .before .before .before .before .row-in .ensures) at (c .counts .ensures)
+    → let st = entry (c .before .before .before .before .before .before) .args .state .now in
+    Told (c .counts .result) (Counts (rowIn st .kp) (kIn st) (tIn st) (markIn st))
+counted c = rw (c .before .before .before .before .before .before .before .before .before .row-in .ensures) at (c .counts .ensures)
 
 returns-4 : tie.Need-returns-4
 returns-4 c = λ b. denied (c .before .counts .result) (c .if3 .taken) (counted (c .before)) (b .numbers .counts)
 
-numbers : (c : tie.Else3) → Numbers (entry (c .before .before .before .before .before .before .before .before .before) .args .state .now)
+numbers : (c : tie.Else3) → Numbers (entry (c .before .before .before .before .before .before .before) .args .state .now)
 numbers c =
-    let e = c .before .before .before .before .before .before .before .before .before in
+    let e = c .before .before .before .before .before .before .before in
     record {
       size = e .before .before .before .before .if1 .left;
       rules = row e;
       counts = granted (c .before .counts .result) (c .if3 .left) (counted (c .before));
     }
-
-taken-in-requires : tie.Need-taken-in-requires
-taken-in-requires c κs = numbers c
 
 progress-in-requires : tie.Need-progress-in-requires
 progress-in-requires c κs = search needs
@@ -91,23 +82,23 @@ placed-requires c κs = search needs
 
 -- and the test of the pivots
 looked : (c : tie.After-placed)
-    → let a = entry (c .before .before .before .before .before .before .before .before .before .before .before .before) .args in
-    let st = a .state .now in Told (c .placed .result) (Placed (lIn st) (takenIn st) (a .pivots .now) (progressIn st))
+    → let a = entry (c .before .before .before .before .before .before .before .before .before) .args in
+    let st = a .state .now in Told (c .placed .result) (Placed (lIn st) (a .pivots .now) (progressIn st))
 looked c =
-    let e = c .before .before .before .before .before .before .before .before .before .before .before .before in
+    let e = c .before .before .before .before .before .before .before .before .before in
     let a = entry e .args in
     placed-told (c .placed .result) (a .state .now) (a .pivots .now) (row e) (e .before .before .before .row-in .ensures)
-    (c .before .before .taken-in .ensures) (c .before .progress-in .ensures) (c .placed .ensures)
+    (c .before .progress-in .ensures) (c .placed .ensures)
 
 returns-5 : tie.Need-returns-5
 returns-5 c = λ b. denied (c .before .placed .result) (c .if4 .taken) (looked (c .before)) (b .placed)
 
 returns-6 : tie.Need-returns-6
 returns-6 c =
-    let n = c .before .before .before .before .before .before .before .before .before .before .before in
+    let n = c .before .before .before .before .before .before .before .before in
     let e = n .before .before in
     record {
-      numbers = numbers (c .before .before .before .before);
+      numbers = numbers (c .before .before .before);
       places = omega (arith, n .if2 .left, l-read (e .before .before .before .row-in .ensures) (row e));
       placed = granted (c .before .placed .result) (c .if4 .left) (looked (c .before));
     }
@@ -127,11 +118,8 @@ begun-spec =
     shared-slice-read-counts
     shared-slice-read-counts-2
     shared-slice-read-counts-3
-    shared-slice-read-counts-4
-    shared-slice-read-counts-5
     counts-requires
     returns-4
-    taken-in-requires
     progress-in-requires
     placed-requires
     returns-5

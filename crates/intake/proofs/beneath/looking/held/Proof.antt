@@ -9,31 +9,28 @@ use Rattle.intake.proofs.beneath.looking.held.Statement.{statement}
 use Rattle.intake.proofs.beneath.looking.held.Tie as tie
 
 abbrev Inv-loop : tie.InvT-loop
-Inv-loop pivots l n r i₀ i = ((k : ℕ) → k < i → column pivots k < l) × (i ≤ r)
+Inv-loop pivots l r i₀ i = ((k : ℕ) → k < i → column pivots k < l) × (i ≤ r)
 
 abbrev μ-loop : tie.MeasureT-loop
-μ-loop pivots l n r i₀ i = r - i
+μ-loop pivots l r i₀ i = r - i
 
 returns : tie.Need-returns Inv-loop μ-loop
 returns c = search needs
 
-returns-2 : tie.Need-returns-2 Inv-loop μ-loop
-returns-2 c = search needs
-
 loop-holds : tie.Need-loop-holds Inv-loop μ-loop
 loop-holds c = (λ k h. absurd (omega arith), omega arith)
 
-mul-if3 : tie.Need-mul-if3 Inv-loop μ-loop
-mul-if3 c = search needs
+mul-if2 : tie.Need-mul-if2 Inv-loop μ-loop
+mul-if2 c = search needs
 
-shared-slice-read-if3 : tie.Need-shared-slice-read-if3 Inv-loop μ-loop
-shared-slice-read-if3 c = search needs
+shared-slice-read-if2 : tie.Need-shared-slice-read-if2 Inv-loop μ-loop
+shared-slice-read-if2 c = search needs
 
-cast-if3 : tie.Need-cast-if3 Inv-loop μ-loop
-cast-if3 c = omega (arith, c .shared-slice-known .given (c .before .before .loop .i))
+cast-if2 : tie.Need-cast-if2 Inv-loop μ-loop
+cast-if2 c = omega (arith, c .shared-slice-known .given (c .before .before .loop .i))
 
-returns-3 : tie.Need-returns-3 Inv-loop μ-loop
-returns-3 c = λ q. omega (arith, c .if3 .taken, q .2 _ (c .before .before .loop-test .taken))
+returns-2 : tie.Need-returns-2 Inv-loop μ-loop
+returns-2 c = λ q. omega (arith, c .if2 .taken, q .1 _ (c .before .before .loop-test .taken))
 
 add-i : tie.Need-add-i Inv-loop μ-loop
 add-i c = search needs
@@ -44,10 +41,10 @@ loop-less c = search needs
 loop-again : tie.Need-loop-again Inv-loop μ-loop
 loop-again c =
     let v = c .before .before .before in
-    (below-one-more (v .before .before .before .args .pivots .now) (v .loop .inv .0) (omega (arith, c .if3 .left)), omega arith)
+    (below-one-more (v .before .before .args .pivots .now) (v .loop .inv .0) (omega (arith, c .if2 .left)), omega arith)
 
-returns-4 : tie.Need-returns-4 Inv-loop μ-loop
-returns-4 c = (omega arith, omega arith, λ k h. c .before .loop .inv .0 k (omega arith))
+returns-3 : tie.Need-returns-3 Inv-loop μ-loop
+returns-3 c = (omega arith, λ k h. c .before .loop .inv .0 k (omega arith))
 
 pub held-spec : {M : Type 1} → statement M
 held-spec =
@@ -56,13 +53,12 @@ held-spec =
     Inv-loop
     μ-loop
     returns
-    returns-2
     loop-holds
-    mul-if3
-    shared-slice-read-if3
-    cast-if3
-    returns-3
+    mul-if2
+    shared-slice-read-if2
+    cast-if2
+    returns-2
     add-i
     loop-less
     loop-again
-    returns-4)
+    returns-3)

@@ -1,8 +1,9 @@
--- `intake::beneath::stepping::take_next` meets its contract: what `take` said of the equation, or nothing after a clash.
+-- `intake::beneath::stepping::take_next` meets its contract: the equation is taken, or nothing is left to learn.
 -- Assumes nothing.
-use mathlib.Core.Path.{refl, subst}
-use native.Mathlib.Omega.{arith}
+use mathlib.Core.Path.{subst}
+use Rattle.elimination.specs.declared.beneath.solving.Progress.{Progress}
 use Rattle.intake.specs.Taking.{Takable}
+use Rattle.intake.proofs.Steps.{clash-adds}
 use borrow.Author.Needs.{needs}
 use Rattle.intake.proofs.beneath.stepping.take_next.Statement.{statement}
 use Rattle.intake.proofs.beneath.stepping.take_next.Tie as tie
@@ -10,22 +11,14 @@ use Rattle.intake.proofs.beneath.stepping.take_next.Tie as tie
 enum-known-p : tie.Need-enum-known-p
 enum-known-p c = search needs
 
-take-requires : tie.Need-take-requires
-take-requires c κs =
+take-held-requires : tie.Need-take-held-requires
+take-held-requires c κs =
     let at12 = c .before .before .before .before .before .before .before .before .before .before .before .before in
     let s = at12 .before in
-    let t = subst (λ p. Takable (s .args .l) (s .args .t) (s .args .pivots .now) (s .args .rows .now) (s .args .values .now) p)
-    (c .before .before .before .before .before .before .p .given .1) (s .pre .0 .0) in
-    ((t .1, s .pre .1 .0, s .pre .1 .1), (t .0, s .pre .0 .1, t .2))
-
-held-now-requires : tie.Need-held-now-requires
-held-now-requires c κs =
-    let at12 = c .before .before .before .before .before .before .before .before .before .before .before .before in
-    let at24 = at12 .before .before .before .before .before .before .before .before .before .before .before .before in
-    let s = at24 in
-    let t = subst (λ p. Takable (s .args .l) (s .args .t) (s .args .pivots .now) (s .args .rows .now) (s .args .values .now) p)
-    (at12 .before .before .before .before .before .p .given .1) (s .pre .0 .0) in
-    omega (arith, t .0, s .pre .0 .1)
+    let a = s .args in (
+      subst (λ (z : Progress). Takable (a .l) (a .t) (a .pivots .now) (a .rows .now) (a .values .now) z) (c .before .before .before .before .before .before .p .given .1) (s .pre .0),
+      s .pre .1,
+    )
 
 enum-told : tie.Need-enum-told
 enum-told c = search needs
@@ -48,22 +41,19 @@ same-length-5 c = search needs
 returns : tie.Need-returns
 returns c =
     let at12 = c .before .before .before .before .before .before .before .before .before .before .before .before in
-    rw (at12 .before .before .before .before .before .before .p .given .1) (
-      c .before .before .before .before .before .before .before .before .before .before .before .take .result,
-      c .before .before .before .before .before .before .before .before .before .before .before .take .ensures,
-      c .held-now .ensures,
-    )
+    rw (at12 .before .before .before .before .before .p .given .1) (c .before .before .before .before .before .before .before .before .before .before .take-held .ensures)
 
 returns-2 : tie.Need-returns-2
-returns-2 c = rw (c .enum-told .given .1) (record { pivots = refl; rows = refl; symbols = refl }, refl)
+returns-2 c =
+    let a = c .before .before .before .before .before .before .before .args in
+    rw (c .enum-told .given .1) (clash-adds (a .row .now) (a .symbol .now) (a .pivots .now) (a .rows .now) (a .values .now))
 
 pub take-next-spec : {M : Type 1} → statement M
 take-next-spec =
     tie.close
     (tie.spec
     enum-known-p
-    take-requires
-    held-now-requires
+    take-held-requires
     enum-told
     same-length
     same-length-2

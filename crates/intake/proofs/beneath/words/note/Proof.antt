@@ -1,4 +1,4 @@
--- `intake::beneath::words::note` meets its contract: three words are written, one after the other.
+-- `intake::beneath::words::note` meets its contract: two words are written, one after the other.
 -- Assumes nothing.
 use mathlib.Core.Path.{refl}
 use native.Mathlib.Omega.{arith}
@@ -24,9 +24,6 @@ slice-write-state c = search needs
 slice-write-state-2 : tie.Need-slice-write-state-2
 slice-write-state-2 c = simp length-set (omega (arith, c .before .before .before .pre .0))
 
-slice-write-state-3 : tie.Need-slice-write-state-3
-slice-write-state-3 c = simp length-set (omega (arith, c .before .before .before .pre .0))
-
 same-length : tie.Need-same-length
 same-length c = search needs
 
@@ -34,9 +31,8 @@ returns : tie.Need-returns
 returns c =
     let s = c .before .before .before in
     let a = s .args in
-    let one = written-more (written-none (λ i. getD (noted (a .came) (a .q) (a .mark)) i 0) (a .state .now) 12) refl (omega (arith, s .pre .0)) refl in
-    let two = written-more one refl (omega (arith, s .pre .0)) (c .before .held-by .ensures) in
-    written-more two refl (omega (arith, s .pre .0)) (c .mark-by .ensures)
+    let one = written-more (written-none (λ i. getD (noted (a .q) (a .mark)) i 0) (a .state .now) 11) refl (omega (arith, s .pre .0)) (c .before .held-by .ensures) in
+    written-more one refl (omega (arith, s .pre .0)) (c .mark-by .ensures)
 
 pub note-spec : {M : Type 1} → statement M
 note-spec =
@@ -47,6 +43,5 @@ note-spec =
     mark-by-requires
     slice-write-state
     slice-write-state-2
-    slice-write-state-3
     same-length
     returns)

@@ -27,7 +27,7 @@ returns : tie.Need-returns
 returns c =
     let s = c .before .before .before .before .before .before .before .before .before .before .before in
     let a = s .args in
-    let f = front (a .r) (a .k) (a .t) (a .most) in
+    let f = front (a .r) (a .k) (a .t) in
     let w = written-as (c .before .before .before .before .before .before .copy .ensures) (λ k h. sym (List·getD-append f (a .tables .now) 0 k h)) in
     written-is (written-then w (c .before .before .copy2 .ensures) (λ k h. sym (getD-append-add f (a .tables .now) k 0))) (omega (arith, s .pre .1))
 

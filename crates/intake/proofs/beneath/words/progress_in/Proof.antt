@@ -16,7 +16,7 @@ shared-slice-read-t3 : tie.Need-shared-slice-read-t3
 shared-slice-read-t3 c = search needs
 
 cast-t6 : tie.Need-cast-t6
-cast-t6 c = omega (arith, c .shared-slice-known2 .given 13)
+cast-t6 c = omega (arith, c .shared-slice-known2 .given 11)
 
 returns-2 : tie.Need-returns-2
 returns-2 c = simp (ne-eqb _ _ (c .before .if1 .left))

@@ -1,4 +1,4 @@
--- `constraints::beneath::ldpc::one_of` meets its contract.
+-- `constraints::beneath::unit::one_of` meets its contract.
 -- Assumes nothing.
 use mathlib.Core.Path.{refl}
 use Prim.Native.Nat.{_-_, _≤_}
@@ -7,8 +7,8 @@ use borrow.Author.Needs.{needs}
 use Rattle.field.specs.Runs.{Written}
 use Rattle.field.specs.Sum.{unit}
 use Rattle.field.proofs.Writing.{written-none, written-more, written-is}
-use Rattle.constraints.proofs.beneath.ldpc.one_of.Statement.{statement}
-use Rattle.constraints.proofs.beneath.ldpc.one_of.Tie as tie
+use Rattle.constraints.proofs.beneath.unit.one_of.Statement.{statement}
+use Rattle.constraints.proofs.beneath.unit.one_of.Tie as tie
 
 abbrev Inv-loop : tie.InvT-loop
 Inv-loop out₀ at n x k₀ out k = (k ≤ n) × Written (λ i. unit i x) out₀ out at k
