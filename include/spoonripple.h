@@ -26,12 +26,11 @@
  *   holds for every store and list.
  *
  * Stack
- *   spoonripple_solve and spoonripple_intake_packet take at most 16 KiB of stack where L and t are at most 2,048, and at most 300 KiB
- *   else; spoonripple_intake_question takes at most 160 KiB, on every input; every other call takes less than 2 KiB. That holds
- *   whatever is lent and whatever is answered: frames have a fixed size, no call calls itself, and none allocates. libc's memcpy and
- *   memset come on top, a few KiB where the loader binds them late: a thread with 32 KiB is enough for such blocks but for a question,
- *   which wants 176 KiB, and one with 320 KiB for all; 128 KiB (the default of musl) is not. bindings/c/stack reads the number of each
- *   call from the archive, and bindings/c/frames.c measures that of the three.
+ *   spoonripple_solve, spoonripple_intake_packet and spoonripple_intake_question take at most 16 KiB of stack where L and t are at most
+ *   2,048, and at most 300 KiB else; every other call takes less than 2 KiB. That holds whatever is lent and whatever is answered:
+ *   frames have a fixed size, no call calls itself, and none allocates. libc's memcpy and memset come on top, a few KiB where the loader
+ *   binds them late: a thread with 32 KiB is enough for such blocks, and one with 320 KiB for all; 128 KiB (the default of musl) is not.
+ *   bindings/c/stack reads the number of each call from the archive, and bindings/c/frames.c measures that of the three.
  *
  * The record of a row
  *   A parameter row is K', J, S, H, W (5.6 of the RFC, Table 2). Its record is nine numbers: these five and the four that follow
@@ -83,8 +82,8 @@ extern "C" {
 #define SPOONRIPPLE_SAME_PLACE 7
 /* A lent part is too short, or not of its exact length where one is named. */
 #define SPOONRIPPLE_WRONG_LENGTH 8
-/* An ESI of 2^24 or more, K not in 1..K' (1..56,403 where no row is lent), more than 65,535 ids, arrivals or packets named, too few
- * ids for a builder, a packet past the number that its intake named. */
+/* An ESI of 2^24 or more, K not in 1..K' (1..56,403 where no row is lent), more than 65,535 ids or arrivals, too few ids for a
+ * builder. */
 #define SPOONRIPPLE_BAD_COUNT 9
 /* Symbol size 0, or symbols that are not T octets each. */
 #define SPOONRIPPLE_BAD_SIZE 10
@@ -387,54 +386,53 @@ uint32_t spoonripple_display(uint32_t count, uint16_t t, const uint32_t *esis, s
 
 /* ---- The intake ----
  * The packets of a block one at a time, as they land, and at any moment the answer that spoonripple_solve gives on them. An intake
- * is begun with row, tables, count, t and most, the most packets that it will take; then it is given packets, in any order and an
- * ESI more than once, and asked, as often as one likes and with packets after it. A begin that is accepted forgets all that came
- * before; what is said of packets is said of those accepted since.
+ * is begun with row, tables, count and t; then it is given packets, in any order, an ESI more than once, and as many as come, and
+ * asked, as often as one likes and with packets after it. A begin that is accepted forgets all that came before; what is said of
+ * packets is said of those accepted since. Nothing counts them: past 65,535, where spoonripple_solve refuses, the answer is still the
+ * one that its definition gives on all of them.
  *
  * Its memory
  *   Four parts belong to an intake and are lent to each of its calls as the last one left them: state, pivots, rows and values. They
  *   are no scratch: nobody else writes there, and no call makes them 0. Each may be longer than is asked here, and its rest stays.
- *   M is L - count + most: rows and values are as large as those of spoonripple_solve for that many arrivals.
- *   state   1,039 words: 0 to 8 the row's record, 9 count, 10 t, 11 most, 12 how many packets were accepted, 13 how many rows are
- *           held, 14 a mark (1: those of packets alone; 2: with the first question the LDPC, HDPC and padding rows too; 3: a
- *           contradiction came), 15 to 1,038 the tables. They may be read. All 0 is an intake that was not begun.
+ *   Row, count and t settle how much that is, however many packets come: there is a place for each of L rows and their symbols, and a
+ *   packet whose row depends on those that are held takes none. Its symbol is compared with what they say of it, and that is all.
+ *   state   1,037 words: 0 to 8 the row's record, 9 count, 10 t, 11 how many rows are held, 12 a mark (1: those of packets alone; 2:
+ *           with the first question the LDPC, HDPC and padding rows too; 3: a contradiction came, which stays until the next accepted
+ *           begin), 13 to 1,036 the tables. They may be read. All 0 is an intake that was not begun.
  *   pivots  L places.
- *   rows    M * L octets.
- *   values  M * t octets.
+ *   rows    L * L octets.
+ *   values  L * t octets.
  *
  * Other content
  *   With anything else in them, of another intake or of none, each call still returns, reads and writes only what it is lent, and
- *   refuses or answers; what it answers is not promised. L, M and t are then those that the state says. 14 is the refusal, before all
- *   others, of a state with one of these, which no accepted begin and no call after it leaves: below 1,039 words; words 0 to 8 no
- *   record, word 9 not in 1..K', word 10 not in 1..65,535, word 11 above 65,535, word 12 above word 11, word 14 not in 1..3; pivots below L places;
- *   and, but where word 14 is 3: word 13 above L, or above word 12 (above word 12 + L - count where word 14 is 2), or a pivot among
- *   the first so many as word 13 says that is not below L. bindings/c/intake.c tries such content. */
+ *   refuses or answers; what it answers is not promised. L and t are then those that the state says. 14 is the refusal, before all
+ *   others, of a state with one of these, which no accepted begin and no call after it leaves: below 1,037 words; words 0 to 8 no
+ *   record, word 9 not in 1..K', word 10 not in 1..65,535, word 12 not in 1..3; pivots below L places; and, but where word 12 is 3:
+ *   word 11 above L, or a pivot among the first so many as word 11 says that is not below L. bindings/c/intake.c tries such content. */
 
 /* The words of a state. */
-#define SPOONRIPPLE_INTAKE_STATE 1039
-/* How much an intake is lent, by the record in uint64_t row[9]: M, the places of pivots, the octets of rows, of values, and of out at
- * a question. They are right for all that spoonripple_intake_begin does not refuse by 4, 9 or 10. */
-#define SPOONRIPPLE_INTAKE_M(row, count, most) ((size_t)(row)[5] - (size_t)(count) + (size_t)(most))
+#define SPOONRIPPLE_INTAKE_STATE 1037
+/* How much an intake is lent, by the record in uint64_t row[9]: the places of pivots, the octets of rows, of values, and of out at a
+ * question. They are right for all that spoonripple_intake_begin does not refuse by 4 or 10. */
 #define SPOONRIPPLE_INTAKE_PIVOTS(row) ((size_t)(row)[5])
-#define SPOONRIPPLE_INTAKE_ROWS(row, count, most) (SPOONRIPPLE_INTAKE_M(row, count, most) * (size_t)(row)[5])
-#define SPOONRIPPLE_INTAKE_VALUES(row, count, t, most) (SPOONRIPPLE_INTAKE_M(row, count, most) * (size_t)(t))
+#define SPOONRIPPLE_INTAKE_ROWS(row) ((size_t)(row)[5] * (size_t)(row)[5])
+#define SPOONRIPPLE_INTAKE_VALUES(row, t) ((size_t)(row)[5] * (size_t)(t))
 #define SPOONRIPPLE_INTAKE_OUT(row, t) ((size_t)(row)[5] * (size_t)(t))
 
-/* Begins the intake of a block of count source symbols of t octets that will take at most `most` packets, none if that is 0, and
- * forgets all that came before. Row and tables are copied: neither need stay. pivots, rows and values may hold anything: they are
- * measured, neither read nor written.
- * Refusals: 4 (the row, with its part), 5 (the tables), 9 (count not in 1..K'), 9 (most above 65,535), 10 (t is 0), 8 (rows below M * L
- * octets, values below M * t octets, state below 1,039 words, pivots below L places). Writes the first 1,039 words of state. */
+/* Begins the intake of a block of count source symbols of t octets, and forgets all that came before. Row and tables are copied:
+ * neither need stay. pivots, rows and values may hold anything: they are measured, neither read nor written.
+ * Refusals: 4 (the row, with its part), 5 (the tables), 9 (count not in 1..K'), 10 (t is 0), 8 (rows below L * L octets, values below
+ * L * t octets, state below 1,037 words, pivots below L places). Writes the first 1,037 words of state. */
 uint32_t spoonripple_intake_begin(uint32_t k, uint32_t j, uint32_t s, uint32_t h, uint32_t w, uint32_t l, uint32_t p, uint32_t b, uint32_t p1,
-                                  const uint32_t *tables, size_t tables_len, uint32_t count, uint16_t t, uint32_t most,
+                                  const uint32_t *tables, size_t tables_len, uint32_t count, uint16_t t,
                                   uint32_t *state, size_t state_len, const uint16_t *pivots, size_t pivots_len,
                                   const uint8_t *rows, size_t rows_len, const uint8_t *values, size_t values_len);
 
 /* Takes one packet: an ESI with its symbol, which need not stay. One that contradicts those before is taken too: the next question
- * tells.
- * Refusals: 14 (not begun), 9 (esi of 2^24 or more), 9 (as many were accepted as begin named), 10 (symbol_len is not t), 8 (rows below
- * M * L octets, values below M * t octets). Writes words 12 to 14 of state, the first L places of pivots, the first M * L octets of rows
- * and M * t of values.
+ * tells. No packet is one too many, nor refused for room where the stores are as large as begin asked. The one with which L rows are
+ * held takes as long as going back over all of them, and each after it little: the sums of its walk, at most 32 of them.
+ * Refusals: 14 (not begun), 9 (esi of 2^24 or more), 10 (symbol_len is not t), 8 (rows below L * L octets, values below L * t octets).
+ * Writes words 11 and 12 of state, the first L places of pivots, the first L * L octets of rows and L * t of values.
  * Stack: at most 16 KiB where L and t are at most 2,048 and where it refuses, at most 300 KiB else. */
 uint32_t spoonripple_intake_packet(uint32_t esi, const uint8_t *symbol, size_t symbol_len,
                                    uint32_t *state, size_t state_len, uint16_t *pivots, size_t pivots_len,
@@ -443,13 +441,14 @@ uint32_t spoonripple_intake_packet(uint32_t esi, const uint8_t *symbol, size_t s
 /* What is known of the packets accepted since the last accepted begin: answer, symbols and shortfall that spoonripple_solve gives on
  * them, SPOONRIPPLE_DONE, SPOONRIPPLE_CONTRADICTION or SPOONRIPPLE_OPEN. Packets may go on after it, and a question may follow a
  * question. The first one takes the LDPC, HDPC and padding rows in, which takes about as long as spoonripple_solve on these packets,
- * and each packet after that costs more: it is worth asking once count packets were accepted. After SPOONRIPPLE_OPEN asking again
- * cannot help before as many more were accepted as the shortfall says, unless a begin was accepted since: until then the answer is
- * SPOONRIPPLE_OPEN or SPOONRIPPLE_CONTRADICTION (theorem not-before-later, docs/PROMISES.md). Packets that were refused do not count.
- * Refusals: 14 (not begun), 8 (rows below M * L octets, values below M * t octets, out below L * t octets), 8 (shortfall has no place).
- * Writes words 12 to 14 of state, the first L places of pivots, the first M * L octets of rows and M * t of values; the first L * t
+ * and each packet after that costs more until L rows are held: it is worth asking once count packets were accepted. After
+ * SPOONRIPPLE_OPEN asking again cannot help before as many more were accepted as the shortfall says, unless a begin was accepted
+ * since: until then the answer is SPOONRIPPLE_OPEN or SPOONRIPPLE_CONTRADICTION (theorem not-before-later, docs/PROMISES.md). Packets
+ * that were refused do not count.
+ * Refusals: 14 (not begun), 8 (rows below L * L octets, values below L * t octets, out below L * t octets), 8 (shortfall has no place).
+ * Writes words 11 and 12 of state, the first L places of pivots, the first L * L octets of rows and L * t of values; the first L * t
  * octets of out only with SPOONRIPPLE_DONE, shortfall[0] only with SPOONRIPPLE_OPEN.
- * Stack: at most 160 KiB. */
+ * Stack: at most 16 KiB where L and t are at most 2,048 and where it refuses, at most 300 KiB else. */
 uint32_t spoonripple_intake_question(uint32_t *state, size_t state_len, uint16_t *pivots, size_t pivots_len,
                                      uint8_t *rows, size_t rows_len, uint8_t *values, size_t values_len,
                                      uint8_t *out, size_t out_len, uint64_t *shortfall, size_t shortfall_len);

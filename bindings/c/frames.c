@@ -8,7 +8,7 @@
 #include <stdlib.h>
 #include <string.h>
 
-enum { STACK = 1 << 20, FILL = 0xa5, SMALL = 16 * 1024, LARGE = 300 * 1024, ASKED = 160 * 1024 };
+enum { STACK = 1 << 20, FILL = 0xa5, SMALL = 16 * 1024, LARGE = 300 * 1024 };
 
 static const uint32_t tables[1024] = {
 #include "../data/random_tables.txt"
@@ -64,6 +64,7 @@ static void *room(size_t octets) {
     return store;
 }
 
+/* As long as the solver asks, or an intake. */
 #define STORES(r) (r)->rows, (r)->m *(r)->l, (r)->values, (r)->m *(r)->block->t
 #define INTAKE(r) (r)->state, SPOONRIPPLE_INTAKE_STATE, (r)->pivots, (r)->l, STORES(r)
 
@@ -101,23 +102,25 @@ static void take(struct run *r, uint8_t *stack, int kind, uint32_t due, int coun
     const struct block *b = r->block;
     r->kind = kind;
     size_t taken = on_a_thread(r, stack);
-    uint32_t bound = kind == QUESTION ? ASKED : b->most; /* the frame of a question is one on every input */
     if (counts && taken > most[kind][b->most == LARGE]) most[kind][b->most == LARGE] = taken;
-    if (r->code == due && (!counts || taken <= bound)) return;
+    if (r->code == due && (!counts || taken <= b->most)) return;
     faults++;
     fprintf(stderr, "%s, L = %zu, T = %u: answer %u, due %u; %zu bytes of stack, at most %u\n", names[kind], r->l, (unsigned)b->t, (unsigned)r->code,
-            (unsigned)due, taken, (unsigned)bound);
+            (unsigned)due, taken, (unsigned)b->most);
 }
 
-/* All that came, in one call, and then one by one: begun twice, so that each call has been made before it counts. */
+/* All that came, in one call, and then one by one: begun three times, so that each call has been made before it counts, and so that the
+ * last packet comes before the first question and after it. */
 static void try_block(struct run *r, uint8_t *stack) {
     const struct block *b = r->block;
     uint32_t refused = b->due == SPOONRIPPLE_BAD_SIZE ? SPOONRIPPLE_NOT_BEGUN : 0;
-    for (int counts = 0; counts < 2; counts++) {
+    for (int turn = 0; turn < 3; turn++) {
+        int counts = turn > 0;
         take(r, stack, SOLVE, b->due, counts);
-        uint32_t begun = spoonripple_intake_begin(SPOONRIPPLE_ROW(r->record), tables, 1024, b->row[0], b->t, (uint32_t)r->n, INTAKE(r));
+        uint32_t begun = spoonripple_intake_begin(SPOONRIPPLE_ROW(r->record), tables, 1024, b->row[0], b->t, INTAKE(r));
         if (begun != (refused ? b->due : SPOONRIPPLE_DONE)) faults++, fprintf(stderr, "begin: %u\n", (unsigned)begun);
         for (size_t i = 0; i < r->n; i++) {
+            if (turn == 2 && i + 1 == r->n) take(r, stack, QUESTION, refused ? refused : i < b->row[0] ? SPOONRIPPLE_OPEN : SPOONRIPPLE_DONE, counts);
             r->esi = r->esis[i], r->symbol = r->symbols + i * b->t;
             take(r, stack, PACKET, refused, counts);
         }
@@ -135,7 +138,7 @@ int main(void) {
         const uint32_t *row = b->row;
         struct run r = {.block = b, .n = b->n + (size_t)b->damaged};
         if (spoonripple_row_check(row[0], row[1], row[2], row[3], row[4], r.record, 9) != SPOONRIPPLE_DONE) return fputs("a row is refused\n", stderr), 2;
-        r.l = r.record[5], r.m = r.l - row[0] + r.n;
+        r.l = r.record[5], r.m = r.l + (size_t)b->damaged;
         r.esis = room(r.n * sizeof *r.esis), r.symbols = room(r.n * b->t), r.pivots = room(r.l * sizeof *r.pivots);
         r.rows = room(r.m * r.l), r.values = room(r.m * b->t), r.out = room(r.l * b->t);
         for (uint32_t e = 0; e < b->n; e++) r.esis[e] = e;
@@ -146,6 +149,6 @@ int main(void) {
     free(stack);
     for (int kind = 0; kind < KINDS; kind++)
         printf("stack of %s, measured: %zu bytes where L and T are at most 2,048 (at most %d), else %zu (at most %d)\n", names[kind], most[kind][0],
-               kind == QUESTION ? ASKED : SMALL, most[kind][1], kind == QUESTION ? ASKED : LARGE);
+               SMALL, most[kind][1], LARGE);
     return faults != 0;
 }

@@ -1,7 +1,7 @@
-/* The intake, call by call. Nights: begins, packets and questions in any order, held to a plain model of the refusals and, at each
- * question, to spoonripple_solve on the packets accepted since the last accepted begin. Other content: from moments of such nights state,
- * pivots and stores are damaged, mixed up and cut short; each call has to return, to refuse where the model does and else to give an
- * answer, and to write only where the header says.
+/* The intake, call by call. Nights: begins, packets and questions in any order, on stores for L places whatever number of packets comes,
+ * held to a plain model of the refusals and, at each question, to spoonripple_solve on the packets accepted since the last accepted begin.
+ * Other content: from moments of such nights state, pivots and stores are damaged, mixed up and cut short; each call has to return, to
+ * refuse where the model does and else to give an answer, and to write only where the header says.
  * Every call is made twice on the same content, with each slice ending at the end of a page and with each beginning at the start of one;
  * no page beside them can be read or written. Both have to give the same answer and to leave the same octets. What begin measures alone
  * is lent from pages that cannot be read at all. */
@@ -17,7 +17,7 @@
 /* ---- Memory that is lent ---- */
 
 enum { STATE, PIVOTS, ROWS, VALUES, OUT, SHORTFALL, SYMBOL, TABLES, SLICES };
-enum { PAGE = 4096, ROOM = 1 << 22, WORDS = SPOONRIPPLE_INTAKE_STATE, K = 9, T, MOST, CAME, HELD, MARK, COPIED };
+enum { PAGE = 4096, ROOM = 1 << 23, WORDS = SPOONRIPPLE_INTAKE_STATE, K = 9, T, HELD, MARK, COPIED };
 static const size_t width[SLICES] = {4, 2, 1, 1, 1, 8, 1, 4};
 
 /* The elements of each slice, and its octets. */
@@ -58,7 +58,7 @@ static uint16_t *pivots(const struct memory *m) { return (uint16_t *)(void *)m->
 /* ---- Cases ---- */
 
 static unsigned long long seed = 6330;
-static unsigned cases, faults, begins, packets, asked[102], met[2][102];
+static unsigned cases, faults, begins, packets, asked[102], crowded, met[2][102];
 static int in_other;
 
 /* A small generator (xorshift64*), so that the cases are the same on every machine. */
@@ -86,7 +86,7 @@ enum { BEGIN, PACKET, QUESTION };
 /* A call, and what it is given besides its memory. */
 struct call {
     int kind;
-    uint32_t esi, count, most;
+    uint32_t esi, count;
     uint16_t t;
     uint64_t row[9];
 };
@@ -103,8 +103,8 @@ static uint32_t made(struct memory *m, const struct call *c, int at_end) {
     uint64_t *shortfall = (void *)at[SHORTFALL];
     const size_t *n = m->len;
     if (c->kind == BEGIN)
-        code = spoonripple_intake_begin(SPOONRIPPLE_ROW(c->row), tables, n[TABLES], c->count, c->t, c->most, state, n[STATE], (void *)dark, n[PIVOTS],
-                                        dark, n[ROWS], dark, n[VALUES]);
+        code = spoonripple_intake_begin(SPOONRIPPLE_ROW(c->row), tables, n[TABLES], c->count, c->t, state, n[STATE], (void *)dark, n[PIVOTS], dark,
+                                        n[ROWS], dark, n[VALUES]);
     else if (c->kind == PACKET)
         code = spoonripple_intake_packet(c->esi, at[SYMBOL], n[SYMBOL], state, n[STATE], places, n[PIVOTS], at[ROWS], n[ROWS], at[VALUES], n[VALUES]);
     else
@@ -118,22 +118,21 @@ static uint32_t made(struct memory *m, const struct call *c, int at_end) {
 
 /* What a state says: whether it was begun, as the header has it; `free` where that may be told either way. */
 struct said {
-    size_t l, m, t;
+    size_t l, t;
     int begun, free;
 };
 
 static struct said reads(const struct memory *m) {
-    struct said s = {0, 0, 0, 0, 0};
+    struct said s = {0, 0, 0, 0};
     uint64_t made_of[9];
     if (m->len[STATE] < WORDS) return s;
     if (spoonripple_row_check(word(m, 0), word(m, 1), word(m, 2), word(m, 3), word(m, 4), made_of, 9) != SPOONRIPPLE_DONE) return s;
     for (size_t i = 5; i < 9; i++)
         if (word(m, i) != made_of[i]) return s;
-    uint32_t k = word(m, K), most = word(m, MOST), held = word(m, HELD), mark = word(m, MARK);
-    s.l = made_of[5], s.t = word(m, T), s.m = s.l - k + most;
-    if (m->len[PIVOTS] < s.l || k < 1 || k > word(m, 0) || s.t < 1 || s.t > 65535 || most > 65535 || word(m, CAME) > most) return s;
-    if (mark < 1 || mark > 3) return s;
-    if (mark < 3 && (held > s.l || held > word(m, CAME) + (mark == 2 ? s.l - k : 0))) return s;
+    uint32_t k = word(m, K), held = word(m, HELD), mark = word(m, MARK);
+    s.l = made_of[5], s.t = word(m, T);
+    if (m->len[PIVOTS] < s.l || k < 1 || k > word(m, 0) || s.t < 1 || s.t > 65535 || mark < 1 || mark > 3) return s;
+    if (mark < 3 && held > s.l) return s;
     for (size_t i = 0; mark < 3 && i < held; i++)
         if (pivots(m)[i] >= s.l) return s;
     /* Of a contradiction no row is held. */
@@ -149,14 +148,14 @@ static uint32_t refusal(const struct memory *m, const struct call *c, const stru
     if (row != 0) return row;
     if (c->kind == BEGIN) {
         if (m->len[TABLES] != 1024) return 5;
-        if (c->count < 1 || c->count > c->row[0] || c->most > 65535) return 9;
+        if (c->count < 1 || c->count > c->row[0]) return 9;
         if (c->t == 0) return 10;
-        size_t rows = SPOONRIPPLE_INTAKE_ROWS(c->row, c->count, c->most), values = SPOONRIPPLE_INTAKE_VALUES(c->row, c->count, c->t, c->most);
+        size_t rows = SPOONRIPPLE_INTAKE_ROWS(c->row), values = SPOONRIPPLE_INTAKE_VALUES(c->row, c->t);
         return m->len[ROWS] < rows || m->len[VALUES] < values || m->len[STATE] < WORDS || m->len[PIVOTS] < SPOONRIPPLE_INTAKE_PIVOTS(c->row) ? 8 : 0;
     }
-    if (c->kind == PACKET && (c->esi >= 1 << 24 || word(m, CAME) >= word(m, MOST))) return 9;
+    if (c->kind == PACKET && c->esi >= 1 << 24) return 9;
     if (c->kind == PACKET && m->len[SYMBOL] != s->t) return 10;
-    if (m->len[ROWS] < s->m * s->l || m->len[VALUES] < s->m * s->t) return 8;
+    if (m->len[ROWS] < s->l * s->l || m->len[VALUES] < s->l * s->t) return 8;
     return c->kind == QUESTION && (m->len[OUT] < s->l * s->t || m->len[SHORTFALL] < 1) ? 8 : 0;
 }
 
@@ -171,10 +170,10 @@ static int stays(const struct memory *m, int slice, size_t from, size_t to) {
 /* Whether the call wrote only what it may: nothing where it refused. */
 static int within(const struct memory *m, const struct call *c, const struct said *s, uint32_t code) {
     int refused = code != 0 && code != 100 && code != 101, begins = c->kind == BEGIN, changed = 0;
-    size_t to[SLICES] = {4 * COPIED, 2 * s->l, s->m * s->l, s->m * s->t, code == 0 ? s->l * s->t : 0, code == 101 ? 8 : 0, 0, 0};
+    size_t to[SLICES] = {4 * COPIED, 2 * s->l, s->l * s->l, s->l * s->t, code == 0 ? s->l * s->t : 0, code == 101 ? 8 : 0, 0, 0};
     if (c->kind == PACKET) to[OUT] = to[SHORTFALL] = 0;
     for (int i = 0; i < SLICES; i++) {
-        size_t from = i == STATE && !begins ? 4 * CAME : 0, end = begins ? (i == STATE ? 4 * WORDS : 0) : to[i];
+        size_t from = i == STATE && !begins ? 4 * HELD : 0, end = begins ? (i == STATE ? 4 * WORDS : 0) : to[i];
         changed |= !stays(m, i, from, refused ? 0 : end);
     }
     return !changed;
@@ -182,7 +181,7 @@ static int within(const struct memory *m, const struct call *c, const struct sai
 
 /* The words that a begin leaves. */
 static int opens(const struct memory *m, const struct call *c) {
-    int right = word(m, K) == c->count && word(m, T) == c->t && word(m, MOST) == c->most && word(m, CAME) == 0 && word(m, HELD) == 0 && word(m, MARK) == 1;
+    int right = word(m, K) == c->count && word(m, T) == c->t && word(m, HELD) == 0 && word(m, MARK) == 1;
     for (size_t i = 0; i < 9; i++) right = right && word(m, i) == c->row[i];
     return right && memcmp(m->bytes[STATE] + 4 * COPIED, m->bytes[TABLES], 4 * 1024) == 0;
 }
@@ -231,7 +230,7 @@ static uint8_t scratch[2][ROOM], solved[ROOM];
 /* What spoonripple_solve says of it. */
 static uint32_t solve(uint64_t *shortfall) {
     const struct call *b = &stretch.begun;
-    size_t l = b->row[5], m = SPOONRIPPLE_INTAKE_M(b->row, b->count, stretch.n);
+    size_t l = b->row[5], m = l - b->count + stretch.n;
     return spoonripple_solve(SPOONRIPPLE_ROW(b->row), stretch.tables, 1024, b->count, b->t, stretch.esis, stretch.n, stretch.symbols,
                              (size_t)stretch.n * b->t, scratch[0], m * l, scratch[1], m * b->t, solved, l * b->t, shortfall, 1);
 }
@@ -253,12 +252,11 @@ static void take_row(struct call *c, const uint32_t row[5]) { spoonripple_row_ch
 
 /* One thing that a begin refuses. */
 static void wrong_begin(struct call *c, size_t len[SLICES]) {
-    switch (below(9)) {
+    switch (below(8)) {
     case 0: c->row[below(9)] ^= (uint64_t)1 << below(16); break;
     case 1: len[TABLES] = below(2) * 1023; break;
     case 2: c->count = below(2) ? 0 : (uint32_t)c->row[0] + 1; break;
-    case 3: c->most = below(2) ? 65536 : UINT32_MAX; break;
-    case 4: c->t = 0; break;
+    case 3: c->t = 0; break;
     default: len = len + below(VALUES + 1), *len = *len > 0 && below(2) ? *len - 1 : below(*len + 1);
     }
 }
@@ -269,7 +267,6 @@ static struct call any_begin(int size) {
     take_row(&c, five[size == WIDE ? FIRST : size == LONGER ? LONG : below(LONG)]);
     c.count = (uint32_t)(size == LONGER || below(2) ? c.row[0] : 1 + below(c.row[0]));
     c.t = size == WIDE ? wide[below(3)] : ts[below(sizeof ts / sizeof *ts)];
-    c.most = (uint32_t)(size == LONGER || below(6) == 0 ? below(4) : c.count + below(8));
     return c;
 }
 
@@ -279,7 +276,7 @@ static void lend_begin(struct memory *m, struct call *c, size_t wrong) {
     memcpy(m->bytes[TABLES], published, sizeof published);
     if (below(4) == 0) noise(m->bytes[TABLES], sizeof published);
     len[TABLES] = 1024, len[STATE] = WORDS, len[PIVOTS] = SPOONRIPPLE_INTAKE_PIVOTS(c->row);
-    len[ROWS] = SPOONRIPPLE_INTAKE_ROWS(c->row, c->count, c->most), len[VALUES] = SPOONRIPPLE_INTAKE_VALUES(c->row, c->count, c->t, c->most);
+    len[ROWS] = SPOONRIPPLE_INTAKE_ROWS(c->row), len[VALUES] = SPOONRIPPLE_INTAKE_VALUES(c->row, c->t);
     for (; wrong > 0; wrong--) wrong_begin(c, len);
     if (below(3) == 0) len[STATE] += below(3), len[PIVOTS] += below(3), len[ROWS] += below(3), len[VALUES] += below(3);
 }
@@ -322,7 +319,6 @@ static void step_packet(size_t damage) {
     packets++;
     memcpy(stretch.symbols + (size_t)stretch.n * b->t, symbol, b->t);
     stretch.esis[stretch.n++] = c.esi;
-    if (word(&night, CAME) != stretch.n) fault("the state counts another number of packets", word(&night, CAME), stretch.n);
 }
 
 static void step_question(void) {
@@ -335,7 +331,7 @@ static void step_question(void) {
     uint32_t code = tried(&night, &c);
     if (code == SPOONRIPPLE_NOT_BEGUN) return;
     uint32_t due = solve(shortfall);
-    asked[due]++;
+    asked[due]++, crowded += stretch.n > b->row[5];
     memcpy(&told, night.bytes[SHORTFALL], sizeof told);
     if (code != due) fault("another answer than that of spoonripple_solve", code, due);
     else if (code == SPOONRIPPLE_DONE && memcmp(night.bytes[OUT], solved, out) != 0) fault("other symbols than those of spoonripple_solve", code, due);
@@ -357,19 +353,19 @@ static void spoil_word(struct memory *m) {
 /* The record of another row, and pivots for it. */
 static uint32_t other_row(struct memory *m) {
     struct call c = {0};
-    take_row(&c, five[below(40) == 0 ? LONG : below(LONG)]);
+    take_row(&c, five[below(200) == 0 ? LONG : below(LONG)]);
     for (size_t i = 0; i < 9; i++) set_word(m, i, (uint32_t)c.row[i]);
     for (size_t i = 0; i < c.row[5]; i++) pivots(m)[i] = (uint16_t)below(c.row[5]);
     if (m->len[PIVOTS] < c.row[5]) m->len[PIVOTS] = c.row[5];
     return (uint32_t)c.row[5];
 }
 
-/* Numbers that fit one another, or nearly: as many rows held as can be, or one more. */
+/* Numbers that fit one another, or nearly: any number of rows is held, often all that can be or one less, or one more; of the longest row
+ * few, since going back over all of them takes seconds. */
 static void plausible(struct memory *m) {
-    uint32_t l = other_row(m), kp = word(m, 0), k = kp > 200 ? kp : (uint32_t)(1 + below(kp)), most = (uint32_t)below(30);
-    uint32_t came = (uint32_t)below(most + 1), mark = (uint32_t)(1 + below(3)), taken = came + (mark == 2 ? l - k : 0);
-    set_word(m, K, k), set_word(m, T, (uint32_t)(1 + below(20))), set_word(m, MOST, most), set_word(m, CAME, came), set_word(m, MARK, mark);
-    set_word(m, HELD, (uint32_t)(below(4) == 0 ? below(taken + 2) : taken < l ? taken : l));
+    uint32_t l = other_row(m), kp = word(m, 0), k = kp > 200 ? kp : (uint32_t)(1 + below(kp)), full = l - (uint32_t)below(2);
+    set_word(m, K, k), set_word(m, T, (uint32_t)(1 + below(20))), set_word(m, MARK, (uint32_t)(1 + below(3)));
+    set_word(m, HELD, l > 1000 ? (uint32_t)below(40) : below(3) == 0 ? full : (uint32_t)below(l + 2));
     if (below(2)) noise(m->bytes[STATE] + 4 * COPIED, 4 * 1024);
 }
 
@@ -403,8 +399,8 @@ static void spoil(struct memory *m) {
 /* Every slice as long as the state says, if there is room; what is new in it holds anything. */
 static void fit(struct memory *m) {
     struct said s = reads(m);
-    size_t needed[SLICES] = {WORDS, s.l, s.m * s.l, s.m * s.t, s.l * s.t, 1, s.t, 0};
-    if (!s.begun || s.m * s.l > ROOM || s.m * s.t > ROOM || s.l * s.t > ROOM) return;
+    size_t needed[SLICES] = {WORDS, s.l, s.l * s.l, s.l * s.t, s.l * s.t, 1, s.t, 0};
+    if (!s.begun || s.l * s.l > ROOM || s.l * s.t > ROOM) return;
     for (int i = 0; i < SLICES; i++) {
         if (needed[i] > m->len[i] && needed[i] - m->len[i] < PAGE) noise(m->bytes[i] + octets(m, i), (needed[i] - m->len[i]) * width[i]);
         m->len[i] = needed[i];
@@ -460,7 +456,7 @@ static void run_night(int size, size_t steps) {
     night.len[STATE] = WORDS;
     memset(night.bytes[STATE], 0, 4 * WORDS);
     while (steps-- > 0) {
-        size_t kind = below(40), soon = stretch.n == stretch.begun.most ? 8 : 1;
+        size_t kind = below(40), soon = stretch.n >= 2 * stretch.begun.row[5] ? 8 : 1;
         if (kind < soon) step_begin(size);
         else if (kind % asked == 1) step_question();
         else step_packet(damage);
@@ -479,11 +475,12 @@ int main(void) {
     for (size_t i = 0; i < 500; i++) run_night(ORDINARY, 20 + below(80));
     for (size_t i = 0; i < 6; i++) run_night(WIDE, 30), run_night(LONGER, 15);
     for (uint32_t number = 1; number < 100; number++) refused += met[0][number];
-    printf("an intake: %u begins, %u packets, %u questions solved, %u contradictions, %u open, %u refused calls; with other content", begins, packets,
-           asked[0], asked[100], asked[101], refused);
+    printf("an intake: %u begins, %u packets, %u questions solved, %u contradictions, %u open, %u of them with more packets than places, ", begins, packets,
+           asked[0], asked[100], asked[101], crowded);
+    printf("%u refused calls; with other content", refused);
     for (size_t i = 0; i < 7; i++) printf("%s answer %u %u times", i > 0 ? "," : "", (unsigned)answers[i], met[1][answers[i]]);
     printf("; %u calls, each made twice, %u faults\n", cases, faults);
     for (size_t i = 0; i < 7; i++)
-        if (met[0][answers[i]] < 200 || met[1][answers[i]] < 200) return fprintf(stderr, "too few answers %u\n", (unsigned)answers[i]), 2;
+        if (met[0][answers[i]] < 200 || met[1][answers[i]] < 200 || crowded < 200) return fprintf(stderr, "too few answers %u\n", (unsigned)answers[i]), 2;
     return faults != 0;
 }

@@ -16,7 +16,7 @@ static const uint32_t published[1024] = {
 #include "../data/random_tables.txt"
 };
 
-/* The state of an intake of two packets that was begun. */
+/* The state of an intake that was begun. */
 static uint32_t begun[SPOONRIPPLE_INTAKE_STATE];
 
 /* All that is lent. */
@@ -24,7 +24,7 @@ static struct {
     uint64_t out[8], words[64];
     uint32_t tables[1024], list[64], esis[2], order[2], isis[32], state[SPOONRIPPLE_INTAKE_STATE];
     uint16_t pivots[L];
-    uint8_t bytes[16], more[16], symbols[2 * T], rows[(M + 2) * L], values[(M + 2) * T], set[L * T], rebuilt[10 * T];
+    uint8_t bytes[16], more[16], symbols[2 * T], rows[L * L], values[L * T], set[L * T], rebuilt[10 * T];
     uint64_t place[2]; /* lent with length 0 */
 } lent, kept;
 
@@ -243,17 +243,17 @@ static void blocks(void) {
 
 #define STATE lent.state, SPOONRIPPLE_INTAKE_STATE
 #define PIVOTS lent.pivots, L
-#define ROWS lent.rows, (M + 2) * L
-#define VALUES lent.values, (M + 2) * T
+#define ROWS lent.rows, L *L
+#define VALUES lent.values, L *T
 
 /* No slice of an intake is taken with length 0, since T is not 0 and L is above K: each is refused. */
 static void intakes(void) {
-    CASE(5, intake_begin(ROW, NONE, 10, T, 2, STATE, PIVOTS, ROWS, VALUES));
-    CASE(8, intake_begin(ROW, TABLES, 10, T, 2, NONE, PIVOTS, ROWS, VALUES));
-    CASE(8, intake_begin(ROW, TABLES, 10, T, 2, STATE, NONE, ROWS, VALUES));
-    CASE(8, intake_begin(ROW, TABLES, 10, T, 2, STATE, PIVOTS, NONE, VALUES));
-    CASE(8, intake_begin(ROW, TABLES, 10, T, 2, STATE, PIVOTS, ROWS, NONE));
-    CASE(8, intake_begin(ROW, TABLES, 10, T, 2, NONE, NONE, NONE, NONE));
+    CASE(5, intake_begin(ROW, NONE, 10, T, STATE, PIVOTS, ROWS, VALUES));
+    CASE(8, intake_begin(ROW, TABLES, 10, T, NONE, PIVOTS, ROWS, VALUES));
+    CASE(8, intake_begin(ROW, TABLES, 10, T, STATE, NONE, ROWS, VALUES));
+    CASE(8, intake_begin(ROW, TABLES, 10, T, STATE, PIVOTS, NONE, VALUES));
+    CASE(8, intake_begin(ROW, TABLES, 10, T, STATE, PIVOTS, ROWS, NONE));
+    CASE(8, intake_begin(ROW, TABLES, 10, T, NONE, NONE, NONE, NONE));
     CASE(10, intake_packet(3, NONE, STATE, PIVOTS, ROWS, VALUES));
     CASE(14, intake_packet(3, lent.symbols, T, NONE, PIVOTS, ROWS, VALUES));
     CASE(14, intake_packet(3, lent.symbols, T, STATE, NONE, ROWS, VALUES));
@@ -271,7 +271,7 @@ static void intakes(void) {
 
 int main(void) {
     if (spoonripple_row_check(FIVE, row, 9) != SPOONRIPPLE_DONE || row[5] != L) return fputs("the row has no such record\n", stderr), 2;
-    if (spoonripple_intake_begin(ROW, published, 1024, 10, T, 2, begun, SPOONRIPPLE_INTAKE_STATE, PIVOTS, ROWS, VALUES) != SPOONRIPPLE_DONE)
+    if (spoonripple_intake_begin(ROW, published, 1024, 10, T, begun, SPOONRIPPLE_INTAKE_STATE, PIVOTS, ROWS, VALUES) != SPOONRIPPLE_DONE)
         return fputs("no intake is begun\n", stderr), 2;
     octets(), packets(), generators(), slabs(), matrices(), systems(), blocks(), intakes();
     printf("null pointers of length 0: %u cases, %u faults\n", cases, faults);

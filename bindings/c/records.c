@@ -136,9 +136,9 @@ static void records(void) {
                   lent.set, sizeof lent.set, OUT));
     CASE(101, solve(ROW, TABLES, 10, T, NONE, NONE, lent.rows, sizeof lent.rows, lent.values, sizeof lent.values, lent.set, sizeof lent.set, OUT));
     CASE(5, solve(ROW, NONE, 0, 0, NONE, lent.symbols, 1, NONE, NONE, NONE, NONE));
-    CASE(0, intake_begin(ROW, TABLES, 10, T, N, lent.state, SPOONRIPPLE_INTAKE_STATE, lent.pivots, WIDE, lent.rows, sizeof lent.rows,
+    CASE(0, intake_begin(ROW, TABLES, 10, T, lent.state, SPOONRIPPLE_INTAKE_STATE, lent.pivots, WIDE, lent.rows, sizeof lent.rows,
                          lent.values, sizeof lent.values));
-    CASE(5, intake_begin(ROW, NONE, 0, 0, UINT32_MAX, NONE, NONE, NONE, NONE));
+    CASE(5, intake_begin(ROW, NONE, 0, 0, NONE, NONE, NONE, NONE));
 }
 
 /* The check writes its nine numbers and no more, and none where there is no room for all or the row breaks a rule, which comes first. */

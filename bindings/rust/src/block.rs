@@ -6,11 +6,8 @@ use crate::refusal::Refusal;
 use crate::tuples::isi;
 use std::collections::BTreeSet;
 
-/// How many packets a block keeps: an intake takes no more (9).
+/// How many packets a block keeps: the solver and display take no more (9).
 const MOST_KEPT: usize = 65535;
-
-/// How many packets beyond K its first intake is begun for: without damage two or three are almost always enough.
-const SPARE: usize = 16;
 
 /// One source block of K symbols of T octets, with all the memory that decoding it takes.
 ///
@@ -32,10 +29,9 @@ const SPARE: usize = 16;
 /// does not fill a block. At most 65,535 packets are kept.
 ///
 /// Until the block is solved or a contradiction each of them goes to an [`Intake`] as it comes, so that a second [`solve`](Block::solve), after one that was
-/// open, does not begin anew; the first takes about as long as one call of the solver, most of it for the LDPC and HDPC rows. The intake owns about
-/// (L - K + m) · (L + T) octets, where L is a little above K and m is the number of packets that it was begun for: K + 16 with the first packet or question.
-/// Where more come before the block is solved, it is begun anew for twice as many as came, at most 65,535, and what is kept is given to it once more. It is
-/// given back once the block is solved or a contradiction, since nothing is solved after that.
+/// open, does not begin anew; the first takes about as long as one call of the solver, most of it for the LDPC and HDPC rows. The intake is begun with the
+/// first packet or question and owns about L · (L + 2 · T) octets, where L is a little above K, however many packets come. It is given back once the block is
+/// solved or a contradiction, since nothing is solved after that.
 #[derive(Clone, Debug)]
 pub struct Block<'a> {
     row: Row,
@@ -65,9 +61,9 @@ impl<'a> Block<'a> {
         Ok(Block { row, tables, count, t, esis, symbols, places: BTreeSet::new(), intake: None, intermediates, source, verdict: None })
     }
 
-    /// Takes the symbol of an ESI. A solved block compares it (see [`Block`]), and [`verdict`](Block::verdict) tells what it is then; any other works it in, which
-    /// takes up to about L · (L + T) steps, and the next [`solve`](Block::solve) tells. Refused, with nothing changed: 9 where the ESI is 2^24 or more, or 65,535
-    /// other packets are kept and the block is not solved; then 10 where the symbol is not t octets.
+    /// Takes the symbol of an ESI. A solved block compares it (see [`Block`]), and [`verdict`](Block::verdict) tells what it is then; any other works it in,
+    /// which takes up to about L · (L + T) steps, once as long as going back over L rows, and the next [`solve`](Block::solve) tells. Refused, with nothing
+    /// changed: 9 where the ESI is 2^24 or more, or 65,535 other packets are kept and the block is not solved; then 10 where the symbol is not t octets.
     ///
     /// A comparison needs no room: a solved block with 65,535 packets, more than which the solver would refuse, still takes any number. It does not keep
     /// them, not even the one that makes it a contradiction.
@@ -94,23 +90,15 @@ impl<'a> Block<'a> {
             self.symbols.extend(symbol);
         }
         if self.verdict.is_none() {
-            self.filled();
+            self.intake().packet(esi, symbol).expect("what could be refused was");
         }
         Ok(())
     }
 
-    /// The intake with all that is kept: the last packet goes in, or where it was not begun for so many, all of them.
-    fn filled(&mut self) -> &mut Intake {
-        let (n, t) = (self.esis.len(), usize::from(self.t));
-        let intake = self.intake.take().filter(|intake| intake.most() as usize >= n).unwrap_or_else(|| {
-            let most = (2 * n).max(self.count as usize + SPARE).min(MOST_KEPT);
-            Intake::begin(self.row, self.tables, self.count, self.t, most as u32).expect("what could be refused was, when the block was made")
-        });
-        let intake = self.intake.insert(intake);
-        for at in intake.accepted() as usize..n {
-            intake.packet(self.esis[at], &self.symbols[at * t..][..t]).expect("what could be refused was, when the block took it");
-        }
-        intake
+    /// The intake, with all that is kept: it is begun with the first packet or question.
+    fn intake(&mut self) -> &mut Intake {
+        let begin = || Intake::begin(self.row, self.tables, self.count, self.t).expect("what could be refused was, when the block was made");
+        self.intake.get_or_insert_with(begin)
     }
 
     /// Whether this symbol came for this ESI before, and was kept.
@@ -137,15 +125,15 @@ impl<'a> Block<'a> {
         self.verdict
     }
 
-    /// Decides over all that came. What [`verdict`](Block::verdict) knows it gives at once. Else the packets are worked in already, and the first call works the
-    /// LDPC, HDPC and padding rows in too, after which each packet costs more; so it is not worth a call before K packets are kept (`fewer-never-solved`). After
-    /// [`Verdict::Open`] asking again cannot help before as many more are kept as its shortfall says (`not-before`, of the solver on what is kept): until then it
-    /// is open or a contradiction, never solved. What came before with the same octets is not kept again, and does not count.
+    /// Decides over all that came. What [`verdict`](Block::verdict) knows it gives at once. Else the packets are worked in already, and the first call works
+    /// the LDPC, HDPC and padding rows in too, after which each packet costs more; so it is not worth a call before K packets are kept (`fewer-never-solved`).
+    /// After [`Verdict::Open`] asking again cannot help before as many more are kept as its shortfall says (`not-before`, of the solver on what is kept): until
+    /// then it is open or a contradiction, never solved. What came before with the same octets is not kept again, and does not count.
     pub fn solve(&mut self) -> Verdict {
         if let Some(known) = self.verdict {
             return known;
         }
-        let intake = self.filled();
+        let intake = self.intake();
         let verdict = intake.question();
         if let Some(set) = intake.intermediates().map(<[u8]>::to_vec) {
             self.intermediates = set;

@@ -1,4 +1,5 @@
-//! The intake of a block: it takes each packet when it lands, and tells at any moment what the solver says of all that came.
+//! The intake of a block: it takes each packet when it lands, and tells at any moment what the solver says of all that came, in memory that does not grow
+//! with it.
 //!
 //! [`Intake`] owns its memory; the three calls that it makes stand here for callers with memory of their own.
 use crate::blocks::{Verdict, encode};
@@ -7,30 +8,29 @@ use crate::refusal::{Refusal, done};
 use crate::sys;
 use crate::tuples::isi;
 
-/// How much memory an intake is lent. Longer slices are taken, and what lies past stays.
+/// How much memory an intake is lent, however many packets come. Longer slices are taken, and what lies past stays.
 #[derive(Clone, Copy, Debug, PartialEq, Eq)]
 pub struct Room {
-    /// 1,039 words.
+    /// 1,037 words.
     pub state: usize,
     /// L places.
     pub pivots: usize,
-    /// M · L octets, where M = L - K + most: as many as the solver asks for so many arrivals.
+    /// L · L octets.
     pub rows: usize,
-    /// M · T octets.
+    /// L · T octets.
     pub values: usize,
     /// L · T octets, at a question.
     pub out: usize,
 }
 
 impl Room {
-    /// What an intake asks of a block of `count` source symbols of t octets that will take at most `most` packets.
-    pub fn of(row: Row, count: u32, t: u16, most: u32) -> Room {
+    /// What the intake of a block with this row and symbols of t octets asks: places for L rows and L symbols.
+    pub fn of(row: Row, t: u16) -> Room {
         let (l, t) = (row.l() as usize, usize::from(t));
-        let m = l.saturating_sub(count as usize) + most as usize;
-        Room { state: at::TABLES.end, pivots: l, rows: m * l, values: m * t, out: l * t }
+        Room { state: at::TABLES.end, pivots: l, rows: l * l, values: l * t, out: l * t }
     }
 
-    /// All of it in octets: (L - K + most) · (L + T) + L · (T + 2) + 4,156.
+    /// All of it in octets: 4,148 + 2 · L + L · L + 2 · L · T.
     pub fn octets(self) -> usize {
         4 * self.state + 2 * self.pivots + self.rows + self.values + self.out
     }
@@ -50,24 +50,23 @@ pub struct Stores<'a> {
     pub values: &'a mut [u8],
 }
 
-/// Begins the intake of a block of `count` source symbols of t octets that will take at most `most` packets, and forgets all that came before. Row and tables
-/// are copied. Refused, with nothing forgotten: 9 where count is not in 1..K' or most is above 65,535; 10 where t is 0; 8 where a part of the memory is too
-/// short, of which only the state is written.
-pub fn begin(row: Row, tables: Tables, count: u32, t: u16, most: u32, stores: Stores) -> Result<(), Refusal> {
+/// Begins the intake of a block of `count` source symbols of t octets, and forgets all that came before. Row and tables are copied. Refused, with nothing
+/// forgotten: 9 where count is not in 1..K'; 10 where t is 0; 8 where a part of the memory is too short, of which only the state is written.
+pub fn begin(row: Row, tables: Tables, count: u32, t: u16, stores: Stores) -> Result<(), Refusal> {
     let ([k, j, s, h, w, l, p, b, p1], tables) = (row.numbers(), tables.numbers());
     let Stores { state, pivots, rows, values } = stores;
     #[rustfmt::skip]
     let code = unsafe {
         sys::spoonripple_intake_begin(
-            k, j, s, h, w, l, p, b, p1, tables.as_ptr(), tables.len(), count, t, most, state.as_mut_ptr(), state.len(),
+            k, j, s, h, w, l, p, b, p1, tables.as_ptr(), tables.len(), count, t, state.as_mut_ptr(), state.len(),
             pivots.as_ptr(), pivots.len(), rows.as_ptr(), rows.len(), values.as_ptr(), values.len(),
         )
     };
     done(code)
 }
 
-/// Takes one packet: an ESI with its symbol. Refused, with nothing changed: 14 where nothing was begun; 9 where the ESI is 2^24 or more, or as many packets
-/// were accepted as begin named; 10 where the symbol is not t octets; 8 where a store is too short.
+/// Takes one packet: an ESI with its symbol. Refused, with nothing changed: 14 where nothing was begun; 9 where the ESI is 2^24 or more; 10 where the symbol
+/// is not t octets; 8 where a store is too short. No packet is one too many.
 pub fn packet(esi: u32, symbol: &[u8], stores: Stores) -> Result<(), Refusal> {
     let Stores { state, pivots, rows, values } = stores;
     #[rustfmt::skip]
@@ -97,23 +96,37 @@ pub fn question(stores: Stores, out: &mut [u8]) -> Result<Verdict, Refusal> {
 
 /// The intake of one source block of K symbols of T octets, with all the memory that it takes.
 ///
-/// It is begun with row, tables, K, T and the most packets that it will take, given packets as they land, in any order, and asked at any moment. Its answer and
-/// the solved octets are those of [`solve`](crate::blocks::solve) on the packets accepted since it was begun: that is proved of the archive, of every sequence
-/// of calls. Packets may go on after a question.
+/// It is begun with row, tables, K and T, given packets as they land, in any order and as many as come, and asked at any moment. Its answer and the solved
+/// octets are those of [`solve`](crate::blocks::solve) on the packets accepted since it was begun: that is proved of the archive, of every sequence of calls.
+/// Past 65,535 packets, where `solve` refuses, the answer is still the one that its definition gives on all of them. Packets may go on after a question, and
+/// the first contradiction stays until it is begun anew.
 ///
-/// It keeps the rows that it holds, not the packets: which of them a contradiction came of cannot be looked up here. [`Block`](crate::Block) keeps them, leaves
-/// out what came before, and names no number; it rests on this.
+/// It keeps the rows that it holds, not the packets: which of them a contradiction came of cannot be looked up here. [`Block`](crate::Block) keeps them, and
+/// leaves out what came before; it rests on this.
 ///
 /// # Memory
 ///
-/// (L - K + most) · (L + T) + L · (T + 2) + 4,156 octets ([`Room::octets`]), taken when it is begun. So `most` is worth choosing: a receiver needs K packets and
-/// few more, unless many come twice or it is not asked.
+/// 4,148 + 2 · L + L · L + 2 · L · T octets ([`Room::octets`]), taken when it is begun and fixed by K and T alone, L being that of the row: 4,148 of state,
+/// 2 · L of pivots, L · L of rows, L · T of symbols, and L · T for the solved ones. A packet whose row depends on those that are held takes no place: its
+/// symbol is compared, and that is all. So a night of any length is taken in the same memory, and no packet is refused for room. In the published rows of
+/// Table 2, with symbols of 1,024 octets:
+///
+/// | K | L | octets |
+/// |---|---|---|
+/// | 100 | 128 | 282,932 |
+/// | 1,000 | 1,071 | 3,346,739 |
+/// | 10,000 | 10,269 | 126,507,959 |
+///
+/// # Time
+///
+/// A packet before L rows are held costs up to about r · (L + T) steps, where r rows are held. The packet or question with which L are held takes as long as
+/// going back over all of them, once; each packet after it costs the sums of its walk, at most 32.
 ///
 /// ```
 /// use spoonripple::{Intake, Row, Tables, Verdict};
 ///
-/// // A block of 10 symbols of 4 octets, and at most 15 packets of it.
-/// let mut intake = Intake::begin(Row::published(10)?, Tables::published(), 10, 4, 15)?;
+/// // A block of 10 symbols of 4 octets.
+/// let mut intake = Intake::begin(Row::published(10)?, Tables::published(), 10, 4)?;
 /// for esi in 0..9 {
 ///     intake.packet(esi, &[esi as u8; 4])?;
 /// }
@@ -121,6 +134,14 @@ pub fn question(stores: Stores, out: &mut [u8]) -> Result<Verdict, Refusal> {
 /// intake.packet(9, &[9; 4])?;
 /// assert_eq!(intake.question(), Verdict::Solved);
 /// assert_eq!(intake.source().unwrap()[36..], [9, 9, 9, 9]);
+///
+/// // The carousel goes round: what is known already takes no room, and is still compared.
+/// for round in 0..1000 {
+///     intake.packet(round % 10, &[(round % 10) as u8; 4])?;
+/// }
+/// assert_eq!(intake.question(), Verdict::Solved);
+/// intake.packet(3, &[3, 3, 3, 0])?;
+/// assert_eq!(intake.question(), Verdict::Contradiction);
 /// # Ok::<(), spoonripple::Refusal>(())
 /// ```
 #[derive(Clone, Debug)]
@@ -131,6 +152,8 @@ pub struct Intake {
     rows: Vec<u8>,
     values: Vec<u8>,
     out: Vec<u8>,
+    /// The archive does not count them.
+    accepted: u64,
     /// What the last question said, unless a packet was accepted since.
     verdict: Option<Verdict>,
 }
@@ -139,35 +162,33 @@ pub struct Intake {
 mod at {
     pub const COUNT: usize = 9;
     pub const T: usize = 10;
-    pub const MOST: usize = 11;
-    pub const ACCEPTED: usize = 12;
-    pub const TABLES: std::ops::Range<usize> = 15..1039;
+    pub const TABLES: std::ops::Range<usize> = 13..1037;
 }
 
 impl Intake {
-    /// Begins an intake of a block of `count` source symbols of t octets that will take at most `most` packets; none if that is 0. Refused: 9 where count is
-    /// not in 1..K', then 9 where most is above 65,535, then 10 where t is 0. Nothing is allocated for one that is refused.
-    pub fn begin(row: Row, tables: Tables, count: u32, t: u16, most: u32) -> Result<Intake, Refusal> {
+    /// Begins an intake of a block of `count` source symbols of t octets. Refused: 9 where count is not in 1..K', then 10 where t is 0. Nothing is allocated
+    /// for one that is refused.
+    pub fn begin(row: Row, tables: Tables, count: u32, t: u16) -> Result<Intake, Refusal> {
         let (state, pivots, [rows, values, out]) = (Vec::new(), Vec::new(), [const { Vec::new() }; 3]);
-        let mut intake = Intake { row, state, pivots, rows, values, out, verdict: None };
-        intake.begin_anew(row, tables, count, t, most)?;
+        let mut intake = Intake { row, state, pivots, rows, values, out, accepted: 0, verdict: None };
+        intake.begin_anew(row, tables, count, t)?;
         Ok(intake)
     }
 
     /// Forgets all that came and begins anew, with the same numbers or others, in the memory that it has where that is enough. Refused as
     /// [`begin`](Intake::begin), and then nothing is forgotten.
-    pub fn begin_anew(&mut self, row: Row, tables: Tables, count: u32, t: u16, most: u32) -> Result<(), Refusal> {
+    pub fn begin_anew(&mut self, row: Row, tables: Tables, count: u32, t: u16) -> Result<(), Refusal> {
         // Memory is measured last: with none lent, what is refused for another reason is told by that.
         let none = Stores { state: &mut [], pivots: &mut [], rows: &mut [], values: &mut [] };
-        begin(row, tables, count, t, most, none).or_else(|why| if why == Refusal::WrongLength { Ok(()) } else { Err(why) })?;
-        let room = Room::of(row, count, t, most);
+        begin(row, tables, count, t, none).or_else(|why| if why == Refusal::WrongLength { Ok(()) } else { Err(why) })?;
+        let room = Room::of(row, t);
         enlarge(&mut self.state, room.state);
         enlarge(&mut self.pivots, room.pivots);
         for (store, need) in [(&mut self.rows, room.rows), (&mut self.values, room.values), (&mut self.out, room.out)] {
             enlarge(store, need);
         }
-        begin(row, tables, count, t, most, self.lend().0).expect("what could be refused was");
-        (self.row, self.verdict) = (row, None);
+        begin(row, tables, count, t, self.lend().0).expect("what could be refused was");
+        (self.row, self.accepted, self.verdict) = (row, 0, None);
         Ok(())
     }
 
@@ -178,17 +199,17 @@ impl Intake {
     }
 
     /// Takes the symbol of an ESI. One that contradicts those before is taken too: the next question tells. Refused, with nothing changed: 9 where the ESI is
-    /// 2^24 or more, or as many packets were accepted as begin named; then 10 where the symbol is not t octets.
+    /// 2^24 or more, then 10 where the symbol is not t octets.
     pub fn packet(&mut self, esi: u32, symbol: &[u8]) -> Result<(), Refusal> {
         packet(esi, symbol, self.lend().0)?;
-        self.verdict = None;
+        (self.accepted, self.verdict) = (self.accepted + 1, None);
         Ok(())
     }
 
-    /// Decides over all packets that were accepted. The first question works the LDPC, HDPC and padding rows in, and each packet after it costs more: it is
-    /// worth asking once K packets were accepted (`fewer-never-solved`). After [`Verdict::Open`] asking again cannot help before as many more were accepted as
-    /// its shortfall says, unless it was begun anew (`not-before-later`): until then it is open or a contradiction, never solved. Packets that were refused do
-    /// not count. What [`verdict`](Intake::verdict) knows costs nothing.
+    /// Decides over all packets that were accepted. The first question works the LDPC, HDPC and padding rows in, and each packet after it costs more until L
+    /// rows are held: it is worth asking once K packets were accepted (`fewer-never-solved`). After [`Verdict::Open`] asking again cannot help before as many
+    /// more were accepted as its shortfall says, unless it was begun anew (`not-before-later`): until then it is open or a contradiction, never solved. Packets
+    /// that were refused do not count. What [`verdict`](Intake::verdict) knows costs nothing.
     pub fn question(&mut self) -> Verdict {
         if let Some(known) = self.verdict {
             return known;
@@ -203,14 +224,9 @@ impl Intake {
         self.verdict
     }
 
-    /// How many packets were accepted since it was begun.
-    pub fn accepted(&self) -> u32 {
-        self.state[at::ACCEPTED]
-    }
-
-    /// The most packets that it will take.
-    pub fn most(&self) -> u32 {
-        self.state[at::MOST]
+    /// How many packets were accepted since it was begun, those that told nothing too.
+    pub fn accepted(&self) -> u64 {
+        self.accepted
     }
 
     /// Its row.

@@ -28,8 +28,8 @@ pub enum Refusal {
     SamePlace,
     /// 8: a lent part is too short, or not of its exact length where one is named.
     WrongLength,
-    /// 9: an ESI of 2^24 or more, a source count K not in 1..K', more than 65,535 ids, arrivals or packets named, too few ids for a builder, or a packet past
-    /// the number that its intake named.
+    /// 9: an ESI of 2^24 or more, a source count K not in 1..K', more than 65,535 ids, arrivals or packets of a block that is not solved, or too few ids for a
+    /// builder.
     BadCount,
     /// 10: symbol size 0, or symbols that are not T octets each.
     BadSize,

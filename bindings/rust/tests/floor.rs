@@ -6,8 +6,8 @@ use common::{Packet, Random, Sender, fresh};
 use spoonripple::{Intake, Refusal, Row, Tables, Verdict};
 use std::collections::BTreeMap;
 
-fn begun(k: u32, t: u16, most: u32) -> Intake {
-    Intake::begin(Row::published(k).unwrap(), Tables::published(), k, t, most).unwrap()
+fn begun(k: u32, t: u16) -> Intake {
+    Intake::begin(Row::published(k).unwrap(), Tables::published(), k, t).unwrap()
 }
 
 /// What an answer lacks: the shortfall where it is open, 0 where it is solved, and nothing is said of a contradiction.
@@ -32,7 +32,7 @@ struct Chain {
 
 impl Chain {
     fn new(random: &mut Random, k: u32, t: u16) -> Chain {
-        let (sender, mut intake) = (Sender::new(random, k, t), begun(k, t, 3 * k + 12));
+        let (sender, mut intake) = (Sender::new(random, k, t), begun(k, t));
         let said = intake.question();
         assert_eq!(said, Verdict::Open { shortfall: k.into() });
         Chain { sender, intake, accepted: Vec::new(), said, least: k.into(), met: BTreeMap::new() }
@@ -115,7 +115,7 @@ fn the_shortfall_is_a_floor() {
 #[test]
 fn asking_before_so_many_were_accepted_cannot_help() {
     let sender = Sender::new(&mut Random::new(10), 20, 3);
-    let mut intake = begun(20, 3, 60);
+    let mut intake = begun(20, 3);
     let took = |intake: &mut Intake, packets: Vec<Packet>| packets.iter().for_each(|(esi, symbol)| intake.packet(*esi, symbol).unwrap());
     took(&mut intake, sender.packets(0..8));
     assert_eq!(intake.question(), Verdict::Open { shortfall: 12 });
@@ -128,9 +128,9 @@ fn asking_before_so_many_were_accepted_cannot_help() {
     }
     assert_eq!((intake.question(), intake.source()), (Verdict::Solved, Some(sender.data)));
     // A begin ends the floor: what was open is forgotten, and another block may take fewer packets.
-    intake.begin_anew(Row::published(20).unwrap(), Tables::published(), 20, 3, 60).unwrap();
+    intake.begin_anew(Row::published(20).unwrap(), Tables::published(), 20, 3).unwrap();
     assert_eq!(intake.question(), Verdict::Open { shortfall: 20 });
-    intake.begin_anew(Row::published(1).unwrap(), Tables::published(), 1, 3, 60).unwrap();
+    intake.begin_anew(Row::published(1).unwrap(), Tables::published(), 1, 3).unwrap();
     intake.packet(0, &[1, 2, 3]).unwrap();
     assert_eq!((intake.question(), intake.accepted()), (Verdict::Solved, 1));
 }
@@ -139,7 +139,7 @@ fn asking_before_so_many_were_accepted_cannot_help() {
 #[test]
 fn the_row_alone_decides() {
     let sender = Sender::new(&mut Random::new(11), 10, 1);
-    let mut intake = begun(10, 1, 20);
+    let mut intake = begun(10, 1);
     sender.packets(0..5).iter().for_each(|(esi, symbol)| intake.packet(*esi, symbol).unwrap());
     let said = |esi: u32, octet: u8| {
         let mut copy = intake.clone();

@@ -130,7 +130,7 @@ fn what_it_says_is_what_a_fresh_call_says() {
     all_ways(&seen, 100);
 }
 
-/// Its first intake is begun for 21 packets, the next ones for 44, 90 and 182: whenever it is asked, nothing that came before is lost.
+/// Its intake has 27 places: whenever it is asked, nothing that came before is lost.
 #[test]
 fn more_packets_than_it_needs_before_it_is_asked() {
     let mut random = Random::new(16);

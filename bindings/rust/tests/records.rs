@@ -24,7 +24,7 @@ fn answers([k, j, s, h, w, l, p, b, p1]: [u32; 9]) -> [u32; 9] {
         ask!(spoonripple_constraint_matrix_no_hdpc, null(), 0, null(), 0, null_mut(), 0),
         ask!(spoonripple_encode, null(), 0, 1, 1, 0, null(), 0, null_mut(), 0),
         ask!(spoonripple_solve, null(), 0, 1, 1, null(), 0, null(), 0, null_mut(), 0, null_mut(), 0, null_mut(), 0, null_mut(), 0),
-        ask!(spoonripple_intake_begin, null(), 0, 1, 1, 1, null_mut(), 0, null(), 0, null(), 0, null(), 0),
+        ask!(spoonripple_intake_begin, null(), 0, 1, 1, null_mut(), 0, null(), 0, null(), 0, null(), 0),
     ]
 }
 

@@ -105,6 +105,6 @@ fn numbers_and_parts_have_one_name() {
 #[test]
 fn the_words_of_a_state_are_as_many() {
     let header = fs::read_to_string(Path::new(env!("CARGO_MANIFEST_DIR")).join("../../include/spoonripple.h")).unwrap();
-    let words = Room::of(Row::published(10).unwrap(), 10, 4, 12).state;
+    let words = Room::of(Row::published(10).unwrap(), 4).state;
     assert_eq!(defines(&header, "INTAKE_"), [(words as u32, "State".to_string())]);
 }

@@ -77,7 +77,7 @@ fn blocks_are_solved_as_packets_land() {
     for (k, t) in [(1, 3), (10, 16), (26, 64), (101, 40)] {
         let sender = Sender::new(k, t);
         let packets = sender.packets(|esi| esi % 3 == 0, k.div_ceil(3) + 9);
-        let mut intake = Intake::begin(Row::published(k).unwrap(), Tables::published(), k, t, packets.len() as u32).unwrap();
+        let mut intake = Intake::begin(Row::published(k).unwrap(), Tables::published(), k, t).unwrap();
         for (n, (esi, symbol)) in (1..).zip(packets.iter().map(parts)) {
             intake.packet(esi, &symbol).unwrap();
             match intake.question() {

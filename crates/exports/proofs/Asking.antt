@@ -16,7 +16,7 @@ use Rattle.headers.specs.Told.{Told}
 use Rattle.elimination.specs.declared.verdict.Verdict.{Verdict}
 use Rattle.solver.specs.declared.solver.Solution.{Solution}
 use Rattle.solver.specs.declared.solver.Solution.the-variants.{Given, Refused}
-use Rattle.intake.specs.State.{Begun, lIn, mIn, tIn}
+use Rattle.intake.specs.State.{Begun, lIn, tIn}
 use Rattle.intake.specs.Night.{Admitted, Asks, Unchanged, askable, storesRoom}
 use Rattle.exports.specs.Call.{Kept}
 use Rattle.exports.specs.Intakes.{QuestionedBy, Questioned, solutionCode, lackingIn}
@@ -34,8 +34,8 @@ none-askable : {st ps : List ℕ} → Begun st ps → (a d : ℕ) → askable st
 none-askable {st} b a d =
     let n = b .numbers in
     let some : 0 < lIn st * tIn st = mul-le-mul {n₁ = 1} {m₁ = 1} {n₂ = lIn st} {m₂ = tIn st} (omega (arith, n .rules .ranges .kp-low)) (n .counts .t-low) in
-    ap (λ (x : Bool). storesRoom (mIn st) (lIn st) (tIn st) a d (unless x 8 (given tt))) (lt-ltb 0 (lIn st * tIn st) some)
-    ∙ eight (ltb a (mIn st * lIn st)) (ltb d (mIn st * tIn st))
+    ap (λ (x : Bool). storesRoom (lIn st) (tIn st) a d (unless x 8 (given tt))) (lt-ltb 0 (lIn st * tIn st) some)
+    ∙ eight (ltb a (lIn st * lIn st)) (ltb d (lIn st * tIn st))
 
 admitted-none : {st ps : List ℕ} (a d : ℕ) {x : Outcome (Unit {0})} → Admitted st ps (askable st a d 0) x → Admitted st ps (refused 8) x
 admitted-none {st} {ps} a d {x} h = go (h .since) (h .told) (h .answer)

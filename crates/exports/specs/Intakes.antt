@@ -1,4 +1,4 @@
--- The calls of an intake (document 02, E1): how C is told of them. State, pivots and stores before, st, ps, a and d; after, st₁, ps₁, a₁ and d₁.
+-- The calls of an intake (document 02, E1 and E14): how C is told of them. State, pivots and stores before, st, ps, a and d; after, st₁, ps₁, a₁ and d₁.
 -- Assumes nothing.
 use mathlib.Core.Path.{_≡_}
 use mathlib.Core.Bool.{Bool, true, false}

@@ -1,4 +1,4 @@
-// The intake of a block, packet by packet (document 02, E1). The caller keeps state, pivots and stores between the calls.
+// The intake of a block, packet by packet, any number of them (document 02, E1 and E14). The caller keeps state, pivots and stores between the calls.
 ghost use mathlib.Core.Path.{_≡_};
 ghost use Rattle.field.specs.Answer.{done, refused};
 ghost use Rattle.intake.specs.Night.{Admitted, Begins, Unchanged};
@@ -14,7 +14,7 @@ use intake::intake::packet;
 use intake::intake::question;
 use solver::solver::Solution;
 
-// Begins anew with a row, tables, `count` source symbols of t octets, for `most` packets. Of pivots and stores only the lengths matter.
+// Begins anew with a row, tables, `count` source symbols of t octets. Of pivots and stores only the lengths matter.
 #[no_mangle]
 pub extern "C" fn spoonripple_intake_begin(
     k: u32,
@@ -29,18 +29,17 @@ pub extern "C" fn spoonripple_intake_begin(
     tables: &[u32],
     count: u32,
     t: u16,
-    most: u32,
     state: &mut [u32],
     pivots: &[u16],
     rows: &[u8],
     values: &[u8],
 ) -> u32
     ensures { λ n. ⌜ Reports done
-        (λ a ys. Begins (row k j s h w l p b p1) (now (tables .entry)) count t most (now (state .entry)) (now (pivots .entry)) (now (rows .entry))
+        (λ a ys. Begins (row k j s h w l p b p1) (now (tables .entry)) count t (now (state .entry)) (now (pivots .entry)) (now (rows .entry))
         (now (values .entry)) ys a) n (now (state .exit)) ⌝ }
 {
     let r = handed_row(k, j, s, h, w, l, p, b, p1);
-    told(begin(r, tables, count, t, most, state, pivots, rows, values))
+    told(begin(r, tables, count, t, state, pivots, rows, values))
 }
 
 // Takes the packet of an ESI with its symbol.
