@@ -263,14 +263,14 @@ pub struct Held<'a> {
 }
 
 /// The words of a state.
-pub const INTAKE_STATE: usize = 1039;
+pub const INTAKE_STATE: usize = 1037;
 
 #[inline]
-pub fn intake_begin([k, j, s, h, w, l, p, b, p1]: Record, tables: &[u32], count: u32, t: u16, most: u32, held: &mut Held) -> Answer<()> {
+pub fn intake_begin([k, j, s, h, w, l, p, b, p1]: Record, tables: &[u32], count: u32, t: u16, held: &mut Held) -> Answer<()> {
     let Held { state, pivots, rows, values } = held;
     done(unsafe {
         spoonripple_intake_begin(
-            k, j, s, h, w, l, p, b, p1, tables.as_ptr(), tables.len(), count, t, most,
+            k, j, s, h, w, l, p, b, p1, tables.as_ptr(), tables.len(), count, t,
             state.as_mut_ptr(), state.len(), pivots.as_ptr(), pivots.len(), rows.as_ptr(), rows.len(), values.as_ptr(), values.len(),
         )
     })

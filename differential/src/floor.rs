@@ -11,7 +11,7 @@ mod chain;
 mod said;
 use chain::Chain;
 
-/// A small block: one chain in three begins with any number of packets, and one in four takes no more than K of them.
+/// A small block: one chain in three begins with any number of packets, and to one in four no more than K of them come.
 fn small(report: &mut Report, random: &mut Random) -> u64 {
     let block = night::any_block(random);
     let few = 1 + random.below(block.count.into()) as u32;

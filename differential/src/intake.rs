@@ -8,7 +8,7 @@ mod content;
 pub mod memory;
 pub mod night;
 pub mod stretch;
-use night::{ANSWERS, IN_LARGER, Night, QUESTIONS, REFUSED};
+use night::{ANSWERS, CROWDED, IN_LARGER, Night, QUESTIONS, REFUSED};
 
 pub fn run(count: u64, seed: u64) -> Found {
     let mut report = Report::new("intake", seed);
@@ -21,12 +21,12 @@ pub fn run(count: u64, seed: u64) -> Found {
     for _ in 0..count / 20_000 {
         Night::new(&mut random, night::large_block).pass(&mut report, &mut random, 40);
     }
-    night::of_many(&mut report, &mut random);
     (0..count / 400).for_each(|_| content::tried(&mut report, &mut random, 4));
     records::tried(&mut report, &mut random, count / 500, &records::INTAKE, 10);
     report.met(1..=10, 1000, count);
     report.met_kinds([QUESTIONS], 100_000, count);
     report.met_kinds(ANSWERS, 10_000, count);
+    report.met_kinds([CROWDED], 10_000, count);
     report.met_kinds([IN_LARGER], 200, count);
     report.met_kinds(REFUSED.map(|(_, kind)| kind), 1000, count);
     report.met_kinds(content::KINDS, 500, count);

@@ -6,6 +6,7 @@ mod floor;
 mod headers;
 mod intake;
 mod matrix;
+mod nights;
 mod receive;
 mod records;
 mod slab;
@@ -24,7 +25,7 @@ fn main() {
         eprintln!("usage: run AREA [COUNT] [SEED]");
         std::process::exit(2);
     };
-    let areas: [(&str, fn(u64, u64) -> Found); 10] = [
+    let areas: [(&str, fn(u64, u64) -> Found); 11] = [
         ("field", field::run),
         ("headers", headers::run),
         ("matrix", matrix::run),
@@ -33,6 +34,7 @@ fn main() {
         ("encoding", encoding::run),
         ("solver", solver::run),
         ("intake", intake::run),
+        ("nights", nights::run),
         ("floor", floor::run),
         ("receive", receive::run),
     ];

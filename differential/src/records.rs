@@ -13,8 +13,6 @@ struct Given {
     tuple: [u32; 6],
     count: u32,
     t: u16,
-    /// The most packets that a begin names.
-    most: u32,
     esi: u32,
     /// The ISIs of a builder, the ESIs of arrivals.
     ids: Vec<u32>,
@@ -38,7 +36,6 @@ impl Given {
             tables,
             count: 1 + random.below(k.into()) as u32,
             t,
-            most: random.below(100) as u32,
             esi: random.below(1 << 24) as u32,
             ids: (0..n).map(|_| random.below(1 << 24) as u32).collect(),
             symbols: random.bytes(n as usize * usize::from(t)),
@@ -84,14 +81,14 @@ fn solve(g: &mut Given, record: Record) -> Answer<()> {
 
 fn begin(g: &mut Given, record: Record) -> Answer<()> {
     let Stores { rows, values, .. } = &mut g.stores;
-    archive::intake_begin(record, &g.tables, g.count, g.t, g.most, &mut Held { state: &mut g.list, pivots: &mut g.pivots, rows, values })
+    archive::intake_begin(record, &g.tables, g.count, g.t, &mut Held { state: &mut g.list, pivots: &mut g.pivots, rows, values })
 }
 
-/// A state in the list, pivots and two stores.
+/// A state in the list, pivots and two stores: for L places, as the solver has them for K arrivals.
 fn lend_intake(g: &mut Given, random: &mut Random, [k, j, s, h, w, l, ..]: Record) {
     g.list = list(random, INTAKE_STATE as u32);
     g.pivots = list(random, l).into_iter().map(|n| n as u16).collect();
-    g.stores = stores(random, [k, j, s, h, w], g.count, g.t, g.most as usize);
+    g.stores = stores(random, [k, j, s, h, w], g.count, g.t, g.count as usize);
 }
 
 fn other_tables(g: &mut Given) {
@@ -104,10 +101,6 @@ fn no_count(g: &mut Given) {
 
 fn large_count(g: &mut Given) {
     g.count = 56404;
-}
-
-fn large_most(g: &mut Given) {
-    g.most = 65536;
 }
 
 fn large_esi(g: &mut Given) {
@@ -195,12 +188,8 @@ pub const SOLVER: [Taker; 1] = [Taker {
     later: &[(5, other_tables), (9, no_count), (9, large_count), (9, large_esi), (10, no_size), (10, few_symbols), (8, short)],
 }];
 
-pub const INTAKE: [Taker; 1] = [Taker {
-    name: "intake_begin",
-    lend: lend_intake,
-    ask: begin,
-    later: &[(5, other_tables), (9, no_count), (9, large_count), (9, large_most), (10, no_size), (8, short)],
-}];
+pub const INTAKE: [Taker; 1] =
+    [Taker { name: "intake_begin", lend: lend_intake, ask: begin, later: &[(5, other_tables), (9, no_count), (9, large_count), (10, no_size), (8, short)] }];
 
 impl Taker {
     /// The answer, and what the call leaves.

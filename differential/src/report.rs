@@ -183,7 +183,7 @@ impl Found {
 }
 
 /// A line of what a run has to say; a reader who has gone away is no fault.
-fn line(words: &str) {
+pub fn line(words: &str) {
     let _ = writeln!(std::io::stdout(), "{words}");
 }
 

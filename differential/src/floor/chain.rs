@@ -26,6 +26,8 @@ pub struct Chain {
     floor: u64,
     /// Every symbol was the sender's.
     honest: bool,
+    /// How many packets come at most.
+    most: usize,
 }
 
 /// What a question says on a memory. What is not the intake's between calls is any.
@@ -38,15 +40,15 @@ fn question(random: &mut Random, memory: &mut Memory, begun: Begun, room: Room) 
 impl Chain {
     pub fn new(random: &mut Random, block: Block, most: u32) -> Chain {
         let (record, count, t) = (rows::record(block.row), block.count, block.t);
-        let begun = Begun::new(record, count, t.into(), most);
+        let begun = Begun::new(record, t.into());
         let room = begun.needs().map(|n| n + random.below(3) as usize);
         let mut memory = Memory::default();
         memory.grow(random, room);
-        let begin = Step { call: Call::Begin { record, tables: block.tables.clone(), count, t, most }, room };
+        let begin = Step { call: Call::Begin { record, tables: block.tables.clone(), count, t }, room };
         let stretch = Stretch::new(random, block.row, &block.tables, count, begun);
         let rows = system::independent(system::fixed(block.row, &block.tables, count), begun.l);
         let (before, other) = (Memory::default(), Memory::default());
-        Chain { block, stretch, begin, memory, before, other, rows, said: Said::Else(0, 0), floor: 0, honest: true }
+        Chain { block, stretch, begin, memory, before, other, rows, said: Said::Else(0, 0), floor: 0, honest: true, most: most as usize }
     }
 
     /// Lets packets come one at a time after the first: until no more may, or a few have come since the answer was open, or one differs, as what would follow
@@ -54,7 +56,7 @@ impl Chain {
     pub fn pass(mut self, report: &mut Report, random: &mut Random, first: u32) -> u64 {
         let (mut made, mut more) = (0, 1 + random.below(4));
         let mut same = self.start(report, random, first);
-        while same && more > 0 && !self.stretch.begun.full() {
+        while same && more > 0 && self.stretch.begun.came < self.most {
             same = self.step(report, random);
             made += 1;
             more -= u64::from(!self.said.is_open());
@@ -183,10 +185,9 @@ impl Chain {
         said == self.said
     }
 
-    /// Now and then, and always once no packet more is taken, one to three calls that are refused; whether they are, and change nothing.
+    /// Now and then one to three calls that are refused; whether they are, and change nothing.
     fn between(&mut self, report: &mut Report, random: &mut Random) -> bool {
-        let some = self.stretch.begun.full() || random.below(4) == 0;
-        let calls = if some { 1 + random.below(3) } else { 0 };
+        let calls = if random.below(4) == 0 { 1 + random.below(3) } else { 0 };
         (0..calls).all(|_| {
             let (step, code) = self.refused(random);
             report.due(Some(code));
@@ -240,6 +241,6 @@ impl Chain {
     /// The arrivals, and what was last said of them.
     fn told(&self) -> String {
         let Block { row, tables, .. } = &self.block;
-        format!("{:?} of {:?}, {row:?}, tables {tables:?}, most {}", self.said, self.stretch.came(), self.stretch.begun.most)
+        format!("{:?} of {:?}, {row:?}, tables {tables:?}", self.said, self.stretch.came())
     }
 }

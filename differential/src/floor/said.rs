@@ -19,7 +19,6 @@ const UNFIT: &str = "second symbols that did not fit";
 const INSTEAD: &str = "second symbols that fitted where the first did not";
 const OVER: &str = "packets between refused for their ESI";
 const LENGTH: &str = "packets between refused for their length";
-const PAST: &str = "packets between refused as one too many";
 const ROOM: &str = "packets between refused for their stores";
 const BEGINS: &str = "begins between refused";
 
@@ -27,7 +26,7 @@ const BEGINS: &str = "begins between refused";
 pub fn met(report: &mut Report, count: u64) {
     report.met_kinds([STEPS], 100_000, count);
     report.met_kinds([FELL, STAYED, DEPENDENT, AGAIN, REORDERED, FITTED, UNFIT], 10_000, count);
-    report.met_kinds([SOLVED, CONTRADICTED, REMAINED, UNHEARD, CHAINS, INSTEAD, OVER, LENGTH, PAST, ROOM, BEGINS], 1000, count);
+    report.met_kinds([SOLVED, CONTRADICTED, REMAINED, UNHEARD, CHAINS, INSTEAD, OVER, LENGTH, ROOM, BEGINS], 1000, count);
     report.met_kinds([LARGER], 100, count);
 }
 
@@ -97,7 +96,7 @@ pub fn kind_of_second([first, second]: [Said; 2]) -> &'static str {
 /// The kind of a refused call.
 pub fn kind_of_refused(step: &Step, code: u32) -> &'static str {
     match (&step.call, code) {
-        (Call::Packet { esi, .. }, 9) => [PAST, OVER][usize::from(*esi >= 1 << 24)],
+        (Call::Packet { .. }, 9) => OVER,
         (Call::Packet { .. }, 10) => LENGTH,
         (Call::Packet { .. }, _) => ROOM,
         _ => BEGINS,

@@ -24,19 +24,17 @@ fn read(state: &[u32], pivots: &[u16]) -> Read {
         return Read::NotBegun;
     }
     let record = std::array::from_fn(|at| state[at]);
-    let [count, t, most, came, held, mark] = std::array::from_fn(|at| state[9 + at]);
-    let numbers = (1..=record[0]).contains(&count) && (1..=65535).contains(&t) && most <= 65535 && came <= most && (1..=3).contains(&mark);
+    let [count, t, held, mark] = std::array::from_fn(|at| state[9 + at]);
+    let numbers = (1..=record[0]).contains(&count) && (1..=65535).contains(&t) && (1..=3).contains(&mark);
     if rows::record_part(record).is_some() || !numbers {
         return Read::NotBegun;
     }
-    let begun = Begun { came: came as usize, ..Begun::new(record, count, t, most) };
+    let begun = Begun::new(record, t);
     let (l, held) = (begun.l, held as usize);
     if mark == 3 && pivots.len() >= l {
         return if held > 0 { Read::Perhaps(begun) } else { Read::Begun(begun) };
     }
-    // Those of the packets, and since the first question those that the row, tables and K fix.
-    let taken = if mark == 1 { begun.came } else { begun.m - begun.most + begun.came };
-    if pivots.len() < l || held > taken.min(l) || pivots[..held].iter().any(|p| usize::from(*p) >= l) {
+    if pivots.len() < l || held > l || pivots[..held].iter().any(|p| usize::from(*p) >= l) {
         return Read::NotBegun;
     }
     let columns: BTreeSet<&u16> = pivots[..held].iter().collect();
@@ -46,15 +44,15 @@ fn read(state: &[u32], pivots: &[u16]) -> Read {
 /// What a night of some packets and perhaps a question has left in a small block.
 fn left(random: &mut Random) -> (Memory, Begun) {
     let Block { row, count, tables, .. } = any_block(random);
-    let (record, t, most) = (rows::record(row), 1 + random.below(6) as u16, random.below(u64::from(count) + 20) as u32);
-    let begun = Begun::new(record, count, t.into(), most);
+    let (record, t) = (rows::record(row), 1 + random.below(6) as u16);
+    let begun = Begun::new(record, t.into());
     let (mut memory, room) = (Memory::default(), begun.needs());
     let more = room.map(|n| n + random.below(3) as usize);
     memory.grow(random, more);
     let fixed = system::fixed(row, &tables, count);
     let set = system::fitting(fixed, begun.l, begun.t, random);
-    Step { call: Call::Begin { record, tables: tables.clone(), count, t, most }, room }.made(&mut memory);
-    for _ in 0..random.below(u64::from(most) + 1) {
+    Step { call: Call::Begin { record, tables: tables.clone(), count, t }, room }.made(&mut memory);
+    for _ in 0..random.below(u64::from(count) + 20) {
         let esi = random.below(u64::from(count) + 40) as u32;
         let symbol = system::made(&system::sent(row, &tables, count, esi), &set, begun.t);
         Step { call: Call::Packet { esi, symbol }, room }.made(&mut memory);
@@ -84,22 +82,22 @@ fn change(random: &mut Random, memory: &mut Memory, begun: Begun) {
         0 => state.iter_mut().for_each(|word| *word = random.word() as u32),
         1 => state.fill([0, 1, u32::MAX][random.below(3) as usize]),
         2 | 3 => {
-            let at = random.below(15) as usize;
+            let at = random.below(13) as usize;
             state[at] = other_word(random, state[at]);
         }
         4 => {
-            let words = [random.below(begun.most as u64 + 2), random.below(begun.l as u64 + 2), random.below(5)];
+            let words = [random.below(begun.l as u64 + 2), random.below(5)];
             state[WRITTEN].copy_from_slice(&words.map(|n| n as u32));
         }
         5 => state[..9].copy_from_slice(&any_record(random)),
-        6 => state[15..].iter_mut().for_each(|word| *word = random.word() as u32),
+        6 => state[13..].iter_mut().for_each(|word| *word = random.word() as u32),
         7 => {
             let many = [begun.l, begun.l, 65536][random.below(3) as usize] as u64;
             pivots.iter_mut().for_each(|pivot| *pivot = random.below(many) as u16);
         }
         8 => {
             // One of a held row, if there is one.
-            let at = random.below(state[13].clamp(1, begun.l as u32).into()) as usize;
+            let at = random.below(state[11].clamp(1, begun.l as u32).into()) as usize;
             pivots[at] = [begun.l, begun.l - 1, begun.l + 1, 0, 65535][random.below(5) as usize] as u16;
         }
         9 => rows.iter_mut().for_each(|octet| *octet = random.byte() >> random.below(9).min(7)),
@@ -149,7 +147,7 @@ pub fn tried(report: &mut Report, random: &mut Random, calls: u64) {
         let call = if random.below(2) == 0 { Call::Question } else { packet };
         let mut step = Step { call, room: room(random, &memory, night) };
         memory.grow(random, step.room);
-        if random.below(6) == 0 {
+        if random.below(3) == 0 {
             spoil(random, &mut step);
         }
         held(report, &mut memory, &step);

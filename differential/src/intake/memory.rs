@@ -1,5 +1,6 @@
 //! The memory of a night, the calls on it, and what document 02 says of each: how it is refused, and what it may write.
 use differential::archive::{self, Held, INTAKE_STATE, Record};
+use differential::system::Verdict;
 use differential::{Random, refusal, rows};
 
 /// How many elements a call is lent, needs or may write, from the front on: of state, pivots, rows, values, out and shortfall.
@@ -11,8 +12,8 @@ pub const VALUES: usize = 3;
 pub const OUT: usize = 4;
 pub const SHORTFALL: usize = 5;
 
-/// The words of a state that a packet or a question may write: how many came, how many rows are held, the mark.
-pub const WRITTEN: std::ops::Range<usize> = 12..15;
+/// The words of a state that a packet or a question may write: how many rows are held, the mark.
+pub const WRITTEN: std::ops::Range<usize> = 11..13;
 
 /// All that the calls of a night are lent a part of.
 #[derive(Clone, Debug, Default, PartialEq)]
@@ -68,30 +69,34 @@ impl Memory {
     }
 }
 
-/// What a begin settled, in numbers, and how many packets were accepted since.
+/// What a begin settled, in numbers, and how many packets were accepted since, which the intake does not count.
 #[derive(Clone, Copy, Debug, Default)]
 pub struct Begun {
     pub l: usize,
-    pub m: usize,
     pub t: usize,
-    pub most: usize,
     pub came: usize,
 }
 
 impl Begun {
-    pub fn new(record: Record, count: u32, t: u32, most: u32) -> Begun {
-        let [l, count, t, most] = [record[5], count, t, most].map(|n| n as usize);
-        Begun { l, m: l - count + most, t, most, came: 0 }
+    pub fn new(record: Record, t: u32) -> Begun {
+        let [l, t] = [record[5], t].map(|n| n as usize);
+        Begun { l, t, came: 0 }
     }
 
+    /// Document 02, E14: L places, whatever number of packets comes.
     pub fn needs(self) -> Room {
-        let Begun { l, m, t, .. } = self;
-        [INTAKE_STATE, l, m * l, m * t, l * t, 1]
+        let Begun { l, t, .. } = self;
+        [INTAKE_STATE, l, l * l, l * t, l * t, 1]
     }
 
-    /// Whether as many packets were accepted as the begin named.
-    pub fn full(self) -> bool {
-        self.came == self.most
+    /// That the two words that a question may write say what it found: how many rows are held, of all that there are, or the contradiction.
+    pub fn noted(self, verdict: &Verdict, state: &[u32]) -> bool {
+        let [held, mark] = [0, 1].map(|at| u64::from(state[WRITTEN.start + at]));
+        match verdict {
+            Verdict::Solved(_) => [held, mark] == [self.l as u64, 2],
+            Verdict::Contradiction => mark == 3,
+            Verdict::Open(lack) => [held + lack, mark] == [self.l as u64, 2],
+        }
     }
 
     /// From L or T of 2,049 on the intake and the solver have another frame.
@@ -102,7 +107,7 @@ impl Begun {
 
 #[derive(Clone, Debug, PartialEq)]
 pub enum Call {
-    Begin { record: Record, tables: Vec<u32>, count: u32, t: u16, most: u32 },
+    Begin { record: Record, tables: Vec<u32>, count: u32, t: u16 },
     Packet { esi: u32, symbol: Vec<u8> },
     Question,
 }
@@ -128,7 +133,7 @@ impl Step {
         let (state, pivots) = (&mut memory.state[..state], &mut memory.pivots[..pivots]);
         let mut held = Held { state, pivots, rows: &mut memory.rows[..rows], values: &mut memory.values[..values] };
         match &self.call {
-            Call::Begin { record, tables, count, t, most } => archive::intake_begin(*record, tables, *count, *t, *most, &mut held).err().unwrap_or(0),
+            Call::Begin { record, tables, count, t } => archive::intake_begin(*record, tables, *count, *t, &mut held).err().unwrap_or(0),
             Call::Packet { esi, symbol } => archive::intake_packet(*esi, symbol, &mut held).err().unwrap_or(0),
             Call::Question => archive::intake_question(&mut held, &mut memory.out[..out], &mut memory.shortfall[..shortfall]),
         }
@@ -144,18 +149,16 @@ impl Step {
         let needs = since.needs();
         let not_begun = (14, begun.is_none() || self.short(needs, &[STATE, PIVOTS]));
         match &self.call {
-            Call::Begin { record, tables, count, t, most } => self.refused_begin(*record, tables, *count, *t, *most),
-            Call::Packet { esi, symbol } => {
-                refusal(&[not_begun, (9, *esi >= 1 << 24 || since.came >= since.most), (10, symbol.len() != since.t), (8, self.short(needs, &[ROWS, VALUES]))])
-            }
+            Call::Begin { record, tables, count, t } => self.refused_begin(*record, tables, *count, *t),
+            Call::Packet { esi, symbol } => refusal(&[not_begun, (9, *esi >= 1 << 24), (10, symbol.len() != since.t), (8, self.short(needs, &[ROWS, VALUES]))]),
             Call::Question => refusal(&[not_begun, (8, self.short(needs, &[ROWS, VALUES, OUT, SHORTFALL]))]),
         }
     }
 
-    fn refused_begin(&self, record: Record, tables: &[u32], count: u32, t: u16, most: u32) -> Option<u32> {
+    fn refused_begin(&self, record: Record, tables: &[u32], count: u32, t: u16) -> Option<u32> {
         let part = rows::record_part(record);
-        let counted = (1..=record[0]).contains(&count) && most <= 65535;
-        let needs = if part.is_none() && counted { Begun::new(record, count, t.into(), most).needs() } else { [0; 6] };
+        let counted = (1..=record[0]).contains(&count);
+        let needs = if part.is_none() && counted { Begun::new(record, t.into()).needs() } else { [0; 6] };
         refusal(&[rows::reason(part), (5, tables.len() != 1024), (9, !counted), (10, t == 0), (8, self.short(needs, &[STATE, PIVOTS, ROWS, VALUES]))])
     }
 

@@ -11,6 +11,7 @@ use raptorq_lent::rng::lent::published;
 pub const QUESTIONS: &str = "questions answered";
 pub const ANSWERS: [&str; 3] = ["questions solved", "questions contradictory", "questions open"];
 pub const IN_LARGER: &str = "questions in the larger frame";
+pub const CROWDED: &str = "questions on more packets than places";
 pub const REFUSED: [(u32, &str); 6] = [
     (4, "of the intake refused by 4"),
     (5, "of the intake refused by 5"),
@@ -20,7 +21,7 @@ pub const REFUSED: [(u32, &str); 6] = [
     (14, "of the intake refused by 14"),
 ];
 
-/// What a begin names but for the most packets.
+/// What a begin names.
 pub struct Block {
     pub row: Row,
     pub count: u32,
@@ -69,17 +70,6 @@ pub fn large_block(random: &mut Random) -> Block {
         if rows::sizes(row).is_some() {
             return Block { row, count: 1 + random.below(k.into()) as u32, ..block };
         }
-    }
-}
-
-/// The most packets that a begin names: none, too few, about as many as are needed, more than the night has, and now and then as many as it may.
-fn any_most(random: &mut Random, count: u32) -> u32 {
-    match random.below(10) {
-        0 => random.below(4) as u32,
-        1 => random.below(u64::from(count) + 1) as u32,
-        2..5 => count + random.below(12) as u32,
-        5 if random.below(100) == 0 => 65533 + random.below(3) as u32,
-        _ => count + random.below(400) as u32,
     }
 }
 
@@ -134,7 +124,7 @@ pub fn any_record(random: &mut Random) -> Record {
 /// Something about a step that is not as it should be, or just is.
 pub fn spoil(random: &mut Random, Step { call, room }: &mut Step) {
     match call {
-        Call::Begin { record, tables, count, t, most } => match random.below(8) {
+        Call::Begin { record, tables, count, t } => match random.below(7) {
             0 => *record = any_record(random),
             1 => {
                 let at = random.below(9) as usize;
@@ -142,8 +132,7 @@ pub fn spoil(random: &mut Random, Step { call, room }: &mut Step) {
             }
             2 => tables.resize(one(random, [0, 1023, 1025, 2048]) as usize, 7),
             3 => *count = one(random, [0, record[0].wrapping_add(1), record[0], u32::MAX]),
-            4 => *most = one(random, [65535, 65536, 1 << 31, u32::MAX]),
-            5 => *t = one(random, [0, 0, u32::from(*t) + 1, 65535]) as u16,
+            4 => *t = one(random, [0, 0, u32::from(*t) + 1, 65535]) as u16,
             _ => cut(random, room, 4),
         },
         Call::Packet { esi, symbol } => match random.below(4) {
@@ -158,9 +147,9 @@ pub fn spoil(random: &mut Random, Step { call, room }: &mut Step) {
     }
 }
 
-/// The words that an accepted begin leaves: what it was given, nothing came, nothing is held, and the mark of that.
-fn begun_state(record: Record, tables: &[u32], count: u32, t: u16, most: u32) -> Vec<u32> {
-    [&record[..], &[count, t.into(), most, 0, 0, 1], tables].concat()
+/// The words that an accepted begin leaves: what it was given, nothing is held, and the mark of that.
+fn begun_state(record: Record, tables: &[u32], count: u32, t: u16) -> Vec<u32> {
+    [&record[..], &[count, t.into(), 0, 1], tables].concat()
 }
 
 impl Night {
@@ -180,10 +169,9 @@ impl Night {
 
     fn any_begin(&self, random: &mut Random) -> Step {
         let Block { row, count, tables, t } = (self.blocks)(random);
-        let (record, most) = (rows::record(row), any_most(random, count));
-        let needs = Begun::new(record, count, t.into(), most).needs();
-        let room = enough(random, needs, self.memory.sizes());
-        Step { call: Call::Begin { record, tables, count, t, most }, room }
+        let record = rows::record(row);
+        let room = enough(random, Begun::new(record, t.into()).needs(), self.memory.sizes());
+        Step { call: Call::Begin { record, tables, count, t }, room }
     }
 
     /// A packet or a question before the first begin.
@@ -198,7 +186,7 @@ impl Night {
         let Some(stretch) = &self.stretch else {
             return if random.below(3) == 0 { self.any_begin(random) } else { self.too_early(random) };
         };
-        if random.below(if stretch.begun.full() { self.odds.begins.min(8) } else { self.odds.begins }) == 0 {
+        if random.below(self.odds.begins) == 0 {
             return self.any_begin(random);
         }
         let call = if random.below(self.odds.questions) == 0 { Call::Question } else { Call::packet(stretch.packet(random)) };
@@ -242,12 +230,12 @@ impl Night {
     /// The same for a call that is not to be refused.
     fn taken(&mut self, report: &mut Report, random: &mut Random, step: Step, code: u32, inputs: bool) -> bool {
         match &step.call {
-            Call::Begin { record, tables, count, t, most } => {
-                let right = begun_state(*record, tables, *count, *t, *most);
+            Call::Begin { record, tables, count, t } => {
+                let right = begun_state(*record, tables, *count, *t);
                 self.before.state[..INTAKE_STATE].copy_from_slice(&right);
                 let same = inputs && code == 0 && self.memory == self.before;
                 let row = std::array::from_fn(|at| record[at]);
-                self.stretch = Some(Stretch::new(random, row, tables, *count, Begun::new(*record, *count, (*t).into(), *most)));
+                self.stretch = Some(Stretch::new(random, row, tables, *count, Begun::new(*record, (*t).into())));
                 report.of("begins accepted", same, || format!("{:?}", self.steps));
                 same
             }
@@ -266,15 +254,14 @@ impl Night {
     fn asked(&mut self, report: &mut Report, random: &mut Random, step: &Step, code: u32) -> bool {
         let stretch = self.stretch.as_mut().expect("no question is answered before a begin");
         let (verdict, solver) = stretch.verdict(random);
-        let kept = step.keeps(stretch.begun, code, &self.before, &self.memory) && stretch.counted(&self.memory.state);
+        let kept = step.keeps(stretch.begun, code, &self.before, &self.memory) && stretch.begun.noted(&verdict, &self.memory.state);
         let by_crate = stretch.asked(&verdict);
         let same = solver && kept && stretch.answers(&verdict, code, &self.memory) && by_crate.unwrap_or(true);
         let said = || format!("{verdict:?} after {:?}", self.steps);
         let [solved, contradictory, open] = ANSWERS;
         report.kind(QUESTIONS);
-        if stretch.begun.larger() {
-            report.kind(IN_LARGER);
-        }
+        let others = [(IN_LARGER, stretch.begun.larger()), (CROWDED, stretch.begun.came > stretch.begun.l)];
+        others.iter().filter(|(_, is)| *is).for_each(|(kind, _)| report.kind(kind));
         report.kind(match verdict {
             Verdict::Solved(_) => solved,
             Verdict::Contradiction => contradictory,
@@ -286,23 +273,5 @@ impl Night {
             _ => report.computed(same, said),
         }
         same
-    }
-}
-
-/// A night of as many packets as a begin may name, one more, and a question. The memory is large: it is looked at before and after these packets alone.
-pub fn of_many(report: &mut Report, random: &mut Random) {
-    let (record, count, t, most) = (rows::record(solver::row_for(3)), 3, 1, 65535);
-    let room = Begun::new(record, count, t.into(), most).needs();
-    let mut night = Night::new(random, any_block);
-    night.make(report, random, Step { call: Call::Begin { record, tables: published(), count, t, most }, room });
-    for n in 0..most {
-        let Some(stretch) = &mut night.stretch else { return };
-        let (esi, symbol) = stretch.whole(random);
-        stretch.accept(esi, &symbol);
-        let code = Step { call: Call::Packet { esi, symbol }, room }.made(&mut night.memory);
-        report.of("packets accepted", code == 0, || format!("packet {n} of {most}, ESI {esi}, gave {code}"));
-    }
-    for call in [Call::Question, Call::Packet { esi: 0, symbol: vec![0] }, Call::Question] {
-        night.make(report, random, Step { call, room });
     }
 }

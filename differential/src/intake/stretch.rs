@@ -82,15 +82,10 @@ impl Stretch {
         system::made(&self.coefficients(esi), &self.set, self.begun.t)
     }
 
-    /// An ESI and its symbol.
-    pub fn whole(&self, random: &mut Random) -> (u32, Vec<u8>) {
-        let esi = self.any_esi(random);
-        (esi, self.own(esi))
-    }
-
     /// An ESI and its symbol, which may be damaged.
     pub fn packet(&self, random: &mut Random) -> (u32, Vec<u8>) {
-        let ((esi, mut symbol), t) = (self.whole(random), self.begun.t);
+        let esi = self.any_esi(random);
+        let (mut symbol, t) = (self.own(esi), self.begun.t);
         match self.damage {
             0 => (),
             1 => symbol = random.bytes(t),
@@ -112,10 +107,10 @@ impl Stretch {
         self.begun.came += 1;
     }
 
-    /// That the state counts the packets, and that its other two words are some that a begin and what followed can leave.
+    /// That the two words of a state that a packet writes are some that a begin and what followed can leave.
     pub fn counted(&self, state: &[u32]) -> bool {
-        let [came, held, mark] = [0, 1, 2].map(|at| state[WRITTEN.start + at]);
-        came as usize == self.begun.came && held as usize <= self.begun.l && (1..=3).contains(&mark)
+        let [held, mark] = [0, 1].map(|at| state[WRITTEN.start + at]);
+        held as usize <= if mark == 1 { self.begun.came.min(self.begun.l) } else { self.begun.l } && (1..=3).contains(&mark)
     }
 
     /// The packets, as `solve` takes them.
