@@ -35,7 +35,8 @@ module _ (v : List ℕ) (r : Row) (k : ℕ) where
 
   pub fixed-ldpc : (j : ℕ) → j < r .s → (c : ℕ) → fixedRow v r k j c ≡ ldpcOf r j c
   fixed-ldpc j h c =
-      ap (λ (f : ℕ → ℕ). f c) (ahead-first (r .s + r .h) (both .coef) (paddingRows v r k .coef) j (omega arith) ∙ ahead-first (r .s) (ldpcOf r) (hdpcOf v r) j h)
+      ap (λ (f : ℕ → ℕ). f c)
+      (ahead-first (r .s + r .h) (both .coef) (paddingRows v r k .coef) j (omega arith) ∙ ahead-first (r .s) (ldpcOf r) (hdpcOf v r) j h)
 
   pub fixed-hdpc : (j : ℕ) → j < r .h → (c : ℕ) → fixedRow v r k (r .s + j) c ≡ hdpcOf v r j c
   fixed-hdpc j h c =

@@ -89,7 +89,8 @@ module _ {L T : ℕ} (S : System ℕ) (x y : List ℕ) where
     only = λ i h. go i (joined-each L T S (buffered x y) i h);
   }
     where
-      go : (i : ℕ) → OneOf L T (with-buffered S x y) i S ⊎ OneOf L T (with-buffered S x y) i (buffered x y) → OneOf L T (with-buffered S x y) i S ⊎ SameEquation L T (with-buffered S x y) i (alone x y) 0
+      go : (i : ℕ) → OneOf L T (with-buffered S x y) i S ⊎ OneOf L T (with-buffered S x y) i (buffered x y)
+          → OneOf L T (with-buffered S x y) i S ⊎ SameEquation L T (with-buffered S x y) i (alone x y) 0
       go i (inl o) = inl o
       go i (inr o) = inr (record { coefs = λ c l. o .2 .coefs c l; bytes = λ b l. o .2 .bytes b l })
 

@@ -71,7 +71,8 @@ fn take_row(
     row: &mut [u8],
     symbol: &mut [u8],
 ) -> Progress
-    requires { ⌜ Fixing r (now tables) k × (j < fixed r k) × Takable (lOf r) t (now pivots) (now rows) (now values) p × Wide (lOf r) t (now row) (now symbol) ⌝ }
+    requires { ⌜ Fixing r (now tables) k × (j < fixed r k) × Takable (lOf r) t (now pivots) (now rows) (now values) p
+        × Wide (lOf r) t (now row) (now symbol) ⌝ }
     ensures { λ _. ⌜ Wide (lOf r) t (now (row .exit)) (now (symbol .exit)) ⌝ }
     ensures { λ q. ⌜ Adds (lOf r) t (single (fixedRow (now (tables .entry)) r k j) (λ _. 0)) (now (pivots .entry)) (now (rows .entry)) (now (values .entry))
         (now (pivots .exit)) (now (rows .exit)) (now (values .exit)) p q ⌝ }
@@ -109,30 +110,8 @@ fn take_fixed(
     p
 }
 
-// The frame of a small block: it takes 4 KiB.
-fn small(
-    rows: &mut [u8],
-    values: &mut [u8],
-    pivots: &mut [u16],
-    tables: &[u32],
-    r: Row,
-    k: u32,
-    t: usize,
-    from: Progress,
-) -> Progress
-    requires { ⌜ Fixing r (now tables) k × Takable (lOf r) t (now pivots) (now rows) (now values) from × (r .l ≤ 2048) × (t ≤ 2048) ⌝ }
-    ensures { λ q. ⌜ Adds (lOf r) t (firstFixed (now (tables .entry)) r k (fixed r k)) (now (pivots .entry)) (now (rows .entry)) (now (values .entry))
-        (now (pivots .exit)) (now (rows .exit)) (now (values .exit)) from q ⌝ }
-{
-    let mut octets = [0u8; 2048];
-    let mut more = [0u8; 2048];
-    let row = &mut octets[..r.l as usize];
-    let symbol = &mut more[..t];
-    take_fixed(rows, values, pivots, tables, r, k, t, from, row, symbol)
-}
-
-// The frame of any other: 128 KiB.
-fn large(
+// The same in buffers of the frame, 128 KiB for every block: a smaller frame for small ones was tried, and the compiler made both one.
+fn take_framed(
     rows: &mut [u8],
     values: &mut [u8],
     pivots: &mut [u16],
@@ -151,30 +130,6 @@ fn large(
     let row = &mut octets[..r.l as usize];
     let symbol = &mut more[..t];
     take_fixed(rows, values, pivots, tables, r, k, t, from, row, symbol)
-}
-
-// The same in buffers of the frame.
-fn take_framed(
-    rows: &mut [u8],
-    values: &mut [u8],
-    pivots: &mut [u16],
-    tables: &[u32],
-    r: Row,
-    k: u32,
-    t: usize,
-    from: Progress,
-) -> Progress
-    requires { ⌜ Fixing r (now tables) k × Takable (lOf r) t (now pivots) (now rows) (now values) from × (t ≤ 65535) ⌝ }
-    ensures { λ q. ⌜ Adds (lOf r) t (firstFixed (now (tables .entry)) r k (fixed r k)) (now (pivots .entry)) (now (rows .entry)) (now (values .entry))
-        (now (pivots .exit)) (now (rows .exit)) (now (values .exit)) from q ⌝ }
-{
-    if r.l > 2048 {
-        return large(rows, values, pivots, tables, r, k, t, from);
-    }
-    if t > 2048 {
-        return large(rows, values, pivots, tables, r, k, t, from);
-    }
-    small(rows, values, pivots, tables, r, k, t, from)
 }
 
 // Where no question was asked since begin.

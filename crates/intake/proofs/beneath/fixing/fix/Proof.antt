@@ -74,9 +74,12 @@ returns c =
     let a = s .args in
     let b = s .pre .0 .0 in
     let t = c .before .before .before .before .before .before .before .before .before .before .take-framed in
-    let u = rw (at12 .before .before .before .before .before .before .before .before .row-in .ensures, at12 .before .before .before .before .progress-in .ensures) at (t .ensures) in
-    completes (a .state .now) (a .pivots .now) (a .rows .now) (a .values .now) (c .before .before .note .last .0) (t .last .1 .1 .0) (t .last .0) (t .last .1 .0)
-    (t .result) b (s .pre .0 .1) (s .pre .1) (adds-alike _ _ _ _ _ _ _ _ _ (t .result) (turns-all _ _ _ _ _) u) (c .before .before .note .ensures)
+    let r = at12 .before .before .before .before .before .before .before .before .row-in .ensures in
+    let p = at12 .before .before .before .before .progress-in .ensures in
+    let w = c .before .before .note in
+    let u = rw (r, p) at (t .ensures) in
+    completes (a .state .now) (a .pivots .now) (a .rows .now) (a .values .now) (w .last .0) (t .last .1 .1 .0) (t .last .0) (t .last .1 .0)
+    (t .result) b (s .pre .0 .1) (s .pre .1) (adds-alike _ _ _ _ _ _ _ _ _ (t .result) (turns-all _ _ _ _ _) u) (w .ensures)
 
 pub fix-spec : {M : Type 1} → statement M
 fix-spec =

@@ -43,7 +43,8 @@ returns : tie.Need-returns
 returns c =
     let at12 = c .before .before .before .before .before .before .before .before .before .before .before .before in
     let s = at12 .before in
-    (c .before .before .row .ensures .size, laid-ldpc _ _ _ _ (s .pre .0 .rules) _ _ (c .before .before .before .before .before .before .before .if1 .taken) (c .before .before .row .ensures))
+    let w = c .before .before .row .ensures in
+    (w .size, laid-ldpc _ _ _ _ (s .pre .0 .rules) _ _ (c .before .before .before .before .before .before .before .if1 .taken) w)
 
 add-if2 : tie.Need-add-if2
 add-if2 c = search needs
@@ -66,7 +67,9 @@ same-length-2 c = search needs
 returns-2 : tie.Need-returns-2
 returns-2 c =
     let s = c .before .before .before .before .before .before .before .before .before .before .before in
-    (c .before .before .row3 .ensures .size, laid-hdpc _ _ _ _ (s .pre .0 .rules) _ _ (c .before .before .before .before .before .if1 .left) (c .before .before .before .before .if2 .taken) (c .before .before .row3 .ensures))
+    let w = c .before .before .row3 .ensures in
+    let h = c .before .before .before .before in
+    (w .size, laid-hdpc _ _ _ _ (s .pre .0 .rules) _ _ (h .before .if1 .left) (h .if2 .taken) w)
 
 sub-row-number : tie.Need-sub-row-number
 sub-row-number c = search needs
@@ -106,7 +109,8 @@ returns-3 c =
     let a = s .args in
     let o = s .pre .0 .rules in
     let w = c .before .before .tuple-row in
-    let marks = tuple-marks (a .tables .now) (o .derived) (c .before .before .before .before .intermediate-tuple .ensures) (c .before .before .before .before .before .row-number .ensures) in
+    let x = c .before .before .before .before in
+    let marks = tuple-marks (a .tables .now) (o .derived) (x .intermediate-tuple .ensures) (x .before .row-number .ensures) in
     (w .ensures .size, laid-padding _ _ _ _ o _ _ (c .before .before .before .before .before .before .if2 .left) (w .ensures) marks)
 
 pub lay-row-spec : {M : Type 1} → statement M

@@ -30,16 +30,19 @@ loop-holds c =
     (omega arith, s .pre .2, adds-none (firstFixed (a .tables .now) (a .r) (a .k) 0) _ _ _ (a .from) refl (s .pre .1 .placed))
 
 in-turn-requires : tie.Need-in-turn-requires Inv-loop μ-loop
-in-turn-requires c κs = let s = c .before .before .before .before .before .before .before .before .before in (s .pre .0 .rules, s .pre .0 .k-high, omega (arith, c .loop-test .taken, c .before .before .fixed .ensures))
+in-turn-requires c κs =
+    let s = c .before .before .before .before .before .before .before .before .before in
+    (s .pre .0 .rules, s .pre .0 .k-high, omega (arith, c .loop-test .taken, c .before .before .fixed .ensures))
 
 take-row-requires : tie.Need-take-row-requires Inv-loop μ-loop
 take-row-requires c κs =
     let at12 = c .before .before .before .before .before .before .before .before .before .before .before .before in
     let s = at12 .before .before .before in
     let v = c .before .before .before .before .before .before .before .loop in
-    let h : v .i < fixed (s .args .r) (s .args .k) = omega (arith, c .before .before .before .before .before .before .loop-test .taken, c .before .before .before .before .before .before .before .before .fixed .ensures) in (
+    let t = c .before .before .before .before .before in
+    let h : v .i < fixed (s .args .r) (s .args .k) = omega (arith, t .before .loop-test .taken, t .before .before .before .fixed .ensures) in (
       s .pre .0,
-      subst (λ (j : ℕ). j < fixed (s .args .r) (s .args .k)) (sym (c .before .before .before .before .before .in-turn .ensures)) (turn-below (s .args .r) (s .args .k) (v .i) h),
+      subst (λ (j : ℕ). j < fixed (s .args .r) (s .args .k)) (sym (t .in-turn .ensures)) (turn-below (s .args .r) (s .args .k) (v .i) h),
       adds-takable _ _ _ _ _ _ (s .pre .1) (v .inv .2),
       v .inv .1,
     )

@@ -23,11 +23,12 @@ take-next-requires c κs =
     let at12 = c .before .before .before .before .before .before .before .before .before .before .before .before in
     let s = at12 .before .before .before .before .before .before .before .before in
     let a = s .args in
-    let l = s .pre .0 .rules .derived .l-fits in (
+    let l = s .pre .0 .rules .derived .l-fits in
+    let y = c .before .before .before .before .before .before .before .before in (
       subst (λ (n : ℕ). Takable n (a .t) (a .pivots .now) (a .rows .now) (a .values .now) (a .p)) (sym l) (s .pre .2),
       (
-        record { row = c .before .before .before .before .before .before .before .before .before .before .before .before .lay-row .ensures .0 ∙ s .pre .3 .row ∙ sym l; symbol = c .before .before .before .before .before .before .before .before .clear .ensures .size ∙ s .pre .3 .symbol },
-        cleared (c .before .before .before .before .before .before .before .before .clear .ensures),
+        record { row = y .before .before .before .before .lay-row .ensures .0 ∙ s .pre .3 .row ∙ sym l; symbol = y .clear .ensures .size ∙ s .pre .3 .symbol },
+        cleared (y .clear .ensures),
       ),
     )
 

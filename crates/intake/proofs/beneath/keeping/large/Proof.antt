@@ -107,8 +107,8 @@ returns c =
     let l = at12 .before .before .before .before .before .before .before .before .before .before .lay-packet in
     let t = c .before .before .before .before .before .before .before .before .before .before .before .before .take-next in
     let adds = packet-adds (s .pre .0) _ _ (s .pre .1) (s .pre .2) (at12 .before .before .before .before .progress-in .ensures)
-    (l .last .1 .1 .1 .1 .1 .0) (l .last .1 .1 .1 .1 .1 .1 .0) (t .last .1 .1 .0) (t .last .0) (t .last .1 .0) (t .result) (at24 .before .before .before .before .before .row-in .ensures)
-    (l .ensures .1 .0) (l .ensures .1 .1 .0) (t .ensures) in
+    (l .last .1 .1 .1 .1 .1 .0) (l .last .1 .1 .1 .1 .1 .1 .0) (t .last .1 .1 .0) (t .last .0) (t .last .1 .0) (t .result)
+    (at24 .before .before .before .before .before .row-in .ensures) (l .ensures .1 .0) (l .ensures .1 .1 .0) (t .ensures) in
     let bytes : Bytes (s .args .symbol .now) = λ i. omega (arith, at36 .before .shared-slice-known .given i) in (
       packet-within _ _ _ _ _ _ _ _ _ _ (t .result) (s .pre .0) bytes (c .before .before .note .ensures) adds,
       packet-holds _ _ _ _ _ _ _ _ _ _ (t .result) (s .pre .0) bytes (c .before .before .note .ensures) adds,

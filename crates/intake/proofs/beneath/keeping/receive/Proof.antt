@@ -69,7 +69,8 @@ note-requires c κs =
     let s = at36 .before .before .before .before in
     let n = s .pre .0 .begun .numbers in
     let t = c .before .before .before .before .before .before .before .before .before .before .before .take-next in
-    (n .size, held-small _ _ (t .result) (omega (arith, own-l n (at24 .before .before .before .before .before .before .before .row-in .ensures), l-small n)) (t .ensures .placed))
+    let q = at24 .before .before .before .before .before .before .before .row-in .ensures in
+    (n .size, held-small _ _ (t .result) (omega (arith, own-l n q, l-small n)) (t .ensures .placed))
 
 same-length : tie.Need-same-length
 same-length c = search needs

@@ -1,7 +1,12 @@
 -- `intake::beneath::stepping::take_held` meets its contract: what became of the equation, and unit rows when the last place is taken.
 -- Assumes nothing.
 use native.Mathlib.Omega.{arith}
-use Rattle.intake.proofs.Steps.{held-lent, place-next, told-adds, full-lent, full-adds}
+use mathlib.Core.Path.{_≡_}
+use Rattle.elimination.specs.Solving.{progressed}
+use Rattle.elimination.specs.declared.beneath.solving.Progress.the-variants as Progresses
+use Rattle.elimination.specs.declared.beneath.taking.Taken.{Taken}
+use Rattle.intake.specs.Taking.{Adds}
+use Rattle.intake.proofs.Steps.{buffered, held-lent, place-next, told-adds, full-lent, full-adds}
 use borrow.Author.Needs.{needs}
 use Rattle.intake.proofs.beneath.stepping.take_held.Statement.{statement}
 use Rattle.intake.proofs.beneath.stepping.take_held.Tie as tie
@@ -18,38 +23,49 @@ take-requires c κs =
 enum-told : tie.Need-enum-told
 enum-told c = search needs
 
+abbrev entry : tie.After-take → tie.Start
+entry c = c .before .before .before .before .before .before .before .before .before .before .before
+
+-- what became of the equation, as it was told
+told : (c : tie.After-take) {j : Taken} → c .take .result ≡ j
+    → let a = entry c .args in
+    let t = c .take in
+    Adds (a .l) (a .t) (buffered (a .row .now) (a .symbol .now)) (a .pivots .now) (a .rows .now) (a .values .now) (t .last .1 .1 .0) (t .last .0)
+    (t .last .1 .0) (Progresses.Held (a .r)) (progressed (a .r) j)
+told c e =
+    let s = entry c in
+    let t = c .take in
+    told-adds _ _ _ (s .args .row .now) (s .args .symbol .now) (t .last .1 .1 .0) (t .last .0) (t .last .1 .0) (s .pre .0) (t .result) (t .ensures) e
+
 reduce-requires : tie.Need-reduce-requires
 reduce-requires c κs =
-    let at12 = c .before .before .before .before .before .before .before .before .before .before .before .before in
-    let at24 = at12 .before .before .before .before .before .before .before .before .before .before .before .before in
-    let s = at24 .before .before .before in
-    let a = s .args in
-    let t = at12 .before .before .before .before .take in
-    let e = c .before .before .before .before .enum-told .given .1 in
-    let f = c .before .before .before .if1 .taken in
-    full-lent (a .pivots .now) (a .rows .now) (a .values .now) (a .row .now) (a .symbol .now) (t .last .1 .1 .0) (t .last .0) (t .last .1 .0) (s .pre .0) (t .result) (t .ensures) e f
+    let b = c .before .before .before in
+    let v = b .before .before .before .before .before .before .before .before .before .before .before .before .before in
+    let s = entry v in
+    let t = v .take in
+    full-lent _ _ _ (s .args .row .now) (s .args .symbol .now) (t .last .1 .1 .0) (t .last .0) (t .last .1 .0) (s .pre .0) (t .result) (t .ensures)
+    (b .before .enum-told .given .1) (b .if1 .taken)
+
+-- the last place was taken, and the rows became unit rows
+reduced : (c : tie.After-reduce)
+    → let v = c .before .before .before .before .before .before .before .before .before .before .before .before .before .before .before .before .before in
+    let a = entry v .args in
+    let t = v .take in
+    Adds (a .l) (a .t) (buffered (a .row .now) (a .symbol .now)) (a .pivots .now) (a .rows .now) (a .values .now) (t .last .1 .1 .0) (c .reduce .last .0)
+    (c .reduce .last .1 .0) (Progresses.Held (a .r)) (Progresses.Held (a .l))
+reduced c =
+    let b = c .before .before .before .before in
+    let v = b .before .before .before .before .before .before .before .before .before .before .before .before .before in
+    let s = entry v in
+    let t = v .take in
+    full-adds _ _ _ (s .args .row .now) (s .args .symbol .now) (t .last .1 .1 .0) (t .last .0) (t .last .1 .0) (s .pre .0) (t .result) (t .ensures)
+    (b .before .enum-told .given .1) (b .if1 .taken) (c .reduce .last .0) (c .reduce .last .1 .0) (c .reduce .ensures)
 
 same-length : tie.Need-same-length
-same-length c =
-    let at12 = c .before .before .before .before .before .before .before .before .before .before .before .before in
-    let at24 = at12 .before .before .before .before .before .before .before .before .before .before .before .before in
-    let s = at24 .before .before .before .before .before .before .before .before in
-    let a = s .args in
-    let t = at12 .before .before .before .before .before .before .before .before .before .take in
-    let e = c .before .before .before .before .before .before .before .before .before .enum-told .given .1 in
-    let f = c .before .before .before .before .before .before .before .before .if1 .taken in
-    full-adds (a .pivots .now) (a .rows .now) (a .values .now) (a .row .now) (a .symbol .now) (t .last .1 .1 .0) (t .last .0) (t .last .1 .0) (s .pre .0) (t .result) (t .ensures) e f (c .before .before .before .before .reduce .last .0) (c .before .before .before .before .reduce .last .1 .0) (c .before .before .before .before .reduce .ensures) .rows .size
+same-length c = reduced (c .before .before .before .before) .rows .size
 
 same-length-2 : tie.Need-same-length-2
-same-length-2 c =
-    let at12 = c .before .before .before .before .before .before .before .before .before .before .before .before in
-    let at24 = at12 .before .before .before .before .before .before .before .before .before .before .before .before in
-    let s = at24 .before .before .before .before .before .before .before .before in
-    let a = s .args in
-    let t = at12 .before .before .before .before .before .before .before .before .before .take in
-    let e = c .before .before .before .before .before .before .before .before .before .enum-told .given .1 in
-    let f = c .before .before .before .before .before .before .before .before .if1 .taken in
-    full-adds (a .pivots .now) (a .rows .now) (a .values .now) (a .row .now) (a .symbol .now) (t .last .1 .1 .0) (t .last .0) (t .last .1 .0) (s .pre .0) (t .result) (t .ensures) e f (c .before .before .before .before .reduce .last .0) (c .before .before .before .before .reduce .last .1 .0) (c .before .before .before .before .reduce .ensures) .symbols .size
+same-length-2 c = reduced (c .before .before .before .before) .symbols .size
 
 same-length-3 : tie.Need-same-length-3
 same-length-3 c = search needs
@@ -61,15 +77,7 @@ same-length-5 : tie.Need-same-length-5
 same-length-5 c = search needs
 
 returns : tie.Need-returns
-returns c =
-    let at12 = c .before .before .before .before .before .before .before .before .before .before .before .before in
-    let at24 = at12 .before .before .before .before .before .before .before .before .before .before .before .before in
-    let s = at24 .before .before .before .before .before .before .before .before in
-    let a = s .args in
-    let t = at12 .before .before .before .before .before .before .before .before .before .take in
-    let e = c .before .before .before .before .before .before .before .before .before .enum-told .given .1 in
-    let f = c .before .before .before .before .before .before .before .before .if1 .taken in
-    full-adds (a .pivots .now) (a .rows .now) (a .values .now) (a .row .now) (a .symbol .now) (t .last .1 .1 .0) (t .last .0) (t .last .1 .0) (s .pre .0) (t .result) (t .ensures) e f (c .before .before .before .before .reduce .last .0) (c .before .before .before .before .reduce .last .1 .0) (c .before .before .before .before .reduce .ensures)
+returns c = reduced (c .before .before .before .before)
 
 enum-told-2 : tie.Need-enum-told-2
 enum-told-2 c = search needs
@@ -93,13 +101,7 @@ same-length-10 : tie.Need-same-length-10
 same-length-10 c = search needs
 
 returns-2 : tie.Need-returns-2
-returns-2 c =
-    let at12 = c .before .before .before .before .before .before .before .before .before .before .before .before in
-    let s = at12 .before .before .before .before .before .before .before .before .before .before .before .before in
-    let a = s .args in
-    let t = at12 .before .take in
-    let e = c .before .enum-told .given .1 in
-    told-adds (a .pivots .now) (a .rows .now) (a .values .now) (a .row .now) (a .symbol .now) (t .last .1 .1 .0) (t .last .0) (t .last .1 .0) (s .pre .0) (t .result) (t .ensures) e
+returns-2 c = told (c .before .before .before .before .before .before .before .before .before .before .before .before .before) (c .before .enum-told .given .1)
 
 same-length-11 : tie.Need-same-length-11
 same-length-11 c = search needs
@@ -117,13 +119,7 @@ same-length-15 : tie.Need-same-length-15
 same-length-15 c = search needs
 
 returns-3 : tie.Need-returns-3
-returns-3 c =
-    let at12 = c .before .before .before .before .before .before .before .before .before .before .before .before in
-    let s = at12 .before .before .before .before .before .before .before .before .before .before .before in
-    let a = s .args in
-    let t = c .before .before .before .before .before .before .before .before .before .before .before .before .take in
-    let e = c .enum-told2 .given .1 in
-    told-adds (a .pivots .now) (a .rows .now) (a .values .now) (a .row .now) (a .symbol .now) (t .last .1 .1 .0) (t .last .0) (t .last .1 .0) (s .pre .0) (t .result) (t .ensures) e
+returns-3 c = told (c .before .before .before .before .before .before .before .before .before .before .before .before) (c .enum-told2 .given .1)
 
 same-length-16 : tie.Need-same-length-16
 same-length-16 c = search needs
@@ -141,13 +137,7 @@ same-length-20 : tie.Need-same-length-20
 same-length-20 c = search needs
 
 returns-4 : tie.Need-returns-4
-returns-4 c =
-    let at12 = c .before .before .before .before .before .before .before .before .before .before .before .before in
-    let s = at12 .before .before .before .before .before .before .before .before .before .before .before in
-    let a = s .args in
-    let t = c .before .before .before .before .before .before .before .before .before .before .before .before .take in
-    let e = c .enum-told3 .given .1 in
-    told-adds (a .pivots .now) (a .rows .now) (a .values .now) (a .row .now) (a .symbol .now) (t .last .1 .1 .0) (t .last .0) (t .last .1 .0) (s .pre .0) (t .result) (t .ensures) e
+returns-4 c = told (c .before .before .before .before .before .before .before .before .before .before .before .before) (c .enum-told3 .given .1)
 
 pub take-held-spec : {M : Type 1} → statement M
 take-held-spec =

@@ -1,7 +1,6 @@
 -- `intake::beneath::stepping::take_next` meets its contract: the equation is taken, or nothing is left to learn.
 -- Assumes nothing.
 use mathlib.Core.Path.{subst}
-use Rattle.elimination.specs.declared.beneath.solving.Progress.{Progress}
 use Rattle.intake.specs.Taking.{Takable}
 use Rattle.intake.proofs.Steps.{clash-adds}
 use borrow.Author.Needs.{needs}
@@ -15,8 +14,9 @@ take-held-requires : tie.Need-take-held-requires
 take-held-requires c κs =
     let at12 = c .before .before .before .before .before .before .before .before .before .before .before .before in
     let s = at12 .before in
-    let a = s .args in (
-      subst (λ (z : Progress). Takable (a .l) (a .t) (a .pivots .now) (a .rows .now) (a .values .now) z) (c .before .before .before .before .before .before .p .given .1) (s .pre .0),
+    let a = s .args in
+    let e = c .before .before .before .before .before .before .p .given .1 in (
+      subst (Takable (a .l) (a .t) (a .pivots .now) (a .rows .now) (a .values .now)) e (s .pre .0),
       s .pre .1,
     )
 
@@ -41,7 +41,8 @@ same-length-5 c = search needs
 returns : tie.Need-returns
 returns c =
     let at12 = c .before .before .before .before .before .before .before .before .before .before .before .before in
-    rw (at12 .before .before .before .before .before .p .given .1) (c .before .before .before .before .before .before .before .before .before .before .take-held .ensures)
+    let t = c .before .before .before .before .before .before .before .before .before .before .take-held in
+    rw (at12 .before .before .before .before .before .p .given .1) (t .ensures)
 
 returns-2 : tie.Need-returns-2
 returns-2 c =

@@ -31,7 +31,8 @@ returns : tie.Need-returns
 returns c =
     let s = c .before .before .before in
     let a = s .args in
-    let one = written-more (written-none (λ i. getD (noted (a .q) (a .mark)) i 0) (a .state .now) 11) refl (omega (arith, s .pre .0)) (c .before .held-by .ensures) in
+    let none = written-none (λ i. getD (noted (a .q) (a .mark)) i 0) (a .state .now) 11 in
+    let one = written-more none refl (omega (arith, s .pre .0)) (c .before .held-by .ensures) in
     written-more one refl (omega (arith, s .pre .0)) (c .mark-by .ensures)
 
 pub note-spec : {M : Type 1} → statement M
