@@ -1,5 +1,5 @@
-//! The receiving program, run as a process: deliveries of the crate's encoder, whole, short, damaged and cut, with typing errors in the row and with rows near
-//! the rules, against docs/DELIVERY.md in plain Rust.
+//! The receiving program, run as a process: deliveries of the crate's encoder, whole, short, damaged and cut, of a few packets and of tens of thousands, with
+//! typing errors in the row and with rows near the rules, against docs/DELIVERY.md in plain Rust.
 use crate::solver::{judged, some};
 use differential::archive::{Arrived, Row};
 use differential::report::{Found, Report};
@@ -9,6 +9,7 @@ use differential::{Random, code, near};
 use raptorq::{ObjectTransmissionInformation, SourceBlockEncoder};
 use raptorq_lent::rng::lent::published;
 use std::borrow::Cow;
+use std::collections::BTreeSet;
 use std::fs::{self, File};
 use std::process::Stdio;
 
@@ -16,7 +17,7 @@ mod program;
 mod typed;
 use program::{Files, Program, Seen};
 
-const TOO_LARGE: &str = "too large for this program: T is at most 1,024, L at most 300, the equations at most 360";
+const TOO_LARGE: &str = "too large for this program: T is at most 1,024, L at most 300";
 
 fn number(bytes: &[u8]) -> u64 {
     bytes.iter().fold(0, |n, byte| n << 8 | u64::from(*byte))
@@ -40,7 +41,7 @@ fn stop(d: &[u8]) -> Option<Cow<'static, str>> {
         return Some("several blocks: this program takes one source block of one sub-block".into());
     }
     if t == 0 {
-        return Some("refused 10: the symbol size is 0, or the last packet is not whole".into());
+        return Some("refused 10: the symbol size is 0".into());
     }
     let Some([l, _, _, _]) = sizes(row(d)) else { return typed::line(row(d)).map(Cow::from) };
     let (k, most) = (f.div_ceil(t), u64::from(row(d)[0]));
@@ -50,41 +51,62 @@ fn stop(d: &[u8]) -> Option<Cow<'static, str>> {
     if t > 1024 || l > 300 {
         return Some(TOO_LARGE.into());
     }
-    if d.len() < 4128 {
-        return Some("refused 5: the random tables are not 1,024 numbers".into());
-    }
-    let (rest, one) = (d.len() as u64 - 4128, t + 4);
-    if u64::from(l) - k + rest / one > 360 {
-        return Some(TOO_LARGE.into());
-    }
-    if rest % one != 0 {
-        return Some("refused 10: the symbol size is 0, or the last packet is not whole".into());
-    }
-    let other = d[4128..].chunks(one as usize).any(|packet| packet[0] != 0);
-    other.then(|| "another block: a packet has a block number other than 0".into())
+    (d.len() < 4128).then(|| "refused 5: the random tables are not 1,024 numbers".into())
 }
 
-/// What a run comes to: the object's bytes and no word, or a line of words and no byte.
-type Outcome = Result<Vec<u8>, String>;
+/// What a run comes to: the notes on standard error; then the object's bytes and no word, or a line of words and no byte.
+#[derive(Debug, PartialEq)]
+struct Outcome {
+    notes: Vec<String>,
+    came: Result<Vec<u8>, String>,
+}
+
+impl Outcome {
+    /// A line of words, and no note.
+    fn said(words: impl Into<String>) -> Outcome {
+        Outcome { notes: vec![], came: Err(words.into()) }
+    }
+}
+
+/// The words of a verdict, in a note; and in place of an object, which a verdict of solved has none of.
+fn words(verdict: &Verdict) -> String {
+    match verdict {
+        Verdict::Solved(_) => "solved".into(),
+        Verdict::Contradiction => "contradiction".into(),
+        Verdict::Open(n) => format!("open, {n} more independent packets at least"),
+    }
+}
+
+/// The verdict on these packets, ESI and symbol each. One that came before says nothing new.
+fn verdict(d: &[u8], count: u32, came: &[(u32, &[u8])]) -> Verdict {
+    let tables: Vec<u32> = d[32..4128].chunks(4).map(|n| number(n) as u32).collect();
+    let (esis, symbols): (Vec<u32>, Vec<&[u8]>) = came.iter().copied().collect::<BTreeSet<_>>().into_iter().unzip();
+    let came = Arrived { count, t: number(&d[6..8]) as u16, esis: &esis, symbols: &symbols.concat() };
+    judged(row(d), &tables, came, &system::fixed(row(d), &tables, count)).0
+}
 
 /// What has to come of a delivery, and its kind in a word.
 fn expected(d: &[u8]) -> (&'static str, Outcome) {
     if let Some(words) = stop(d) {
-        return ("not taken", Err(words.into()));
+        return ("not taken", Outcome::said(words));
     }
     let (f, t, row) = (number(&d[..5]) as usize, number(&d[6..8]) as usize, row(d));
-    let tables: Vec<u32> = d[32..4128].chunks(4).map(|n| number(n) as u32).collect();
-    let count = f.div_ceil(t) as u32;
-    let (esis, symbols): (Vec<u32>, Vec<&[u8]>) = d[4128..].chunks(t + 4).map(|p| (number(&p[1..4]) as u32, &p[4..])).unzip();
-    let came = Arrived { count, t: t as u16, esis: &esis, symbols: &symbols.concat() };
-    match judged(row, &tables, came, &system::fixed(row, &tables, count)).0 {
+    let (count, packets) = (f.div_ceil(t) as u32, d[4128..].chunks_exact(t + 4));
+    let (cut, all) = (!packets.remainder().is_empty(), packets.len());
+    let own: Vec<(u32, &[u8])> = packets.filter(|p| p[0] == 0).map(|p| (number(&p[1..4]) as u32, &p[4..])).collect();
+    let hundreds = (100..=own.len()).step_by(100);
+    let mut notes: Vec<String> = hundreds.map(|n| format!("note: after {n} packets: {}", words(&verdict(d, count, &own[..n])))).collect();
+    let others = all - own.len();
+    notes.extend((others > 0).then(|| format!("note: packets of another block, passed over: {others}")));
+    notes.extend(cut.then(|| "note: the last packet is not whole, and is passed over".into()));
+    match verdict(d, count, &own) {
         Verdict::Solved(set) => {
+            let tables: Vec<u32> = d[32..4128].chunks(4).map(|n| number(n) as u32).collect();
             let mut block: Vec<u8> = (0..count).flat_map(|esi| system::made(&system::sent(row, &tables, count, esi), &set, t)).collect();
             block.truncate(f);
-            ("blocks", Ok(block))
+            ("blocks", Outcome { notes, came: Ok(block) })
         }
-        Verdict::Contradiction => ("contradictions", Err("contradiction".into())),
-        Verdict::Open(n) => ("open", Err(format!("open, {n} more independent packets at least"))),
+        other => (if other == Verdict::Contradiction { "contradictions" } else { "open" }, Outcome { notes, came: Err(words(&other)) }),
     }
 }
 
@@ -133,6 +155,33 @@ fn sound(random: &mut Random) -> Vec<u8> {
     delivery(random, &object, t, came)
 }
 
+/// A delivery of hundreds or thousands of packets, most of which came before, with those of other blocks between and at times an end that is cut.
+fn long(random: &mut Random) -> Vec<u8> {
+    let (k, t) = (1 + random.below(30) as usize, 1 + random.below(6) as usize);
+    let (object, came) = (random.bytes(k * t), (k + random.below(6) as usize).saturating_sub(2));
+    let few = delivery(random, &object, t, came);
+    let (head, packets) = few.split_at(4128);
+    let packets: Vec<&[u8]> = packets.chunks(t + 4).collect();
+    let most = [500, 500, 2_000, 30_000][random.below(4) as usize];
+    let mut d = head.to_vec();
+    for _ in 0..if packets.is_empty() { 0 } else { 100 + random.below(most) } {
+        let from = d.len();
+        d.extend(packets[random.below(packets.len() as u64) as usize]);
+        if random.below(8) == 0 {
+            d[from] = random.byte();
+        }
+    }
+    if random.below(4) == 0 {
+        let at = 4128 + random.below(d.len() as u64 - 4127) as usize;
+        d.truncate(at);
+    }
+    if random.below(8) == 0 && d.len() > 4128 {
+        let at = 4128 + random.below(d.len() as u64 - 4128) as usize;
+        d[at] ^= 1 << random.below(8);
+    }
+    d
+}
+
 /// What may happen to it on the way; most times nothing.
 fn damage(random: &mut Random, d: &mut Vec<u8>) {
     let len = d.len() as u64;
@@ -151,14 +200,14 @@ fn damage(random: &mut Random, d: &mut Vec<u8>) {
 
 /// What has to be seen of a run, where the object goes to standard output or to a file of this name.
 fn seen(due: &Outcome, to: Option<&str>, before: &Files) -> Seen {
-    let mut due = match due {
-        Ok(object) => Seen { output: object.clone(), words: vec![], files: before.clone() },
-        Err(words) => return Seen { output: vec![], words: format!("{words}\n").into(), files: before.clone() },
-    };
-    if let Some(name) = to {
-        due.files.insert(name.into(), std::mem::take(&mut due.output));
+    let said = due.notes.iter().chain(due.came.as_ref().err()).flat_map(|line| format!("{line}\n").into_bytes());
+    let mut seen = Seen { output: vec![], words: said.collect(), files: before.clone() };
+    match (&due.came, to) {
+        (Ok(object), None) => seen.output = object.clone(),
+        (Ok(object), Some(name)) => _ = seen.files.insert(name.into(), object.clone()),
+        (Err(_), _) => {}
     }
-    due
+    seen
 }
 
 const OUT: &str = "catalogue";
@@ -174,7 +223,7 @@ fn piped() -> [Stdio; 2] {
 
 /// Counts the part that a run has to tell, if its row is refused.
 fn told(report: &mut Report, due: &Outcome) {
-    let part = due.as_ref().err().and_then(|line| typed::part_in(line));
+    let part = due.came.as_ref().err().and_then(|line| typed::part_in(line));
     report.due(part.map(|part| code(4, part)));
 }
 
@@ -229,7 +278,7 @@ fn hindered(report: &mut Report, program: &Program, d: &[u8]) {
     ];
     let before = older().into_iter().chain([("older".into(), vec![1]), ("shelf/".into(), vec![])]).collect();
     for (arguments, streams, words) in runs {
-        let due = seen(&Err(words.into()), None, &before);
+        let due = seen(&Outcome::said(words), None, &before);
         report.of("hindered", program.run(arguments, streams, &before, d) == due, || format!("the run that has to say: {words}"));
     }
 }
@@ -239,7 +288,7 @@ fn linked(report: &mut Report, program: &Program, d: &[u8], object: &[u8]) {
     let left: Files = older().into_iter().map(|(name, bytes)| (name + ".old", bytes)).collect();
     let mut before = left.clone();
     before.insert("catalogue@".into(), b"catalogue.old".to_vec());
-    let due = seen(&Ok(object.to_vec()), Some(OUT), &left);
+    let due = seen(&Outcome { notes: vec![], came: Ok(object.to_vec()) }, Some(OUT), &left);
     report.of("to a file", program.run(&[OUT], piped(), &before, d) == due, || "a link at OUT".into());
 }
 
@@ -250,7 +299,7 @@ pub fn run(count: u64, seed: u64) -> Found {
     // The object that words could be taken for, with every packet.
     let line = b"contradiction\n";
     let d = delivery(&mut random, line, 7, 14);
-    assert_eq!(expected(&d), ("blocks", Ok(line.to_vec())), "the harness solves it");
+    assert_eq!(expected(&d), ("blocks", Outcome { notes: vec![], came: Ok(line.to_vec()) }), "the harness solves it");
     tried(&mut report, &program, &d, seed, 0);
     linked(&mut report, &program, &d, line);
     hindered(&mut report, &program, &d);
@@ -267,6 +316,11 @@ pub fn run(count: u64, seed: u64) -> Found {
         let row = near::row(&mut random, 1 + number as u32 % 9);
         let d = unheard(&mut random, 1 + number as u32 % 40, row);
         report.kind("rows near a rule");
+        tried(&mut report, &program, &d, seed, number);
+    }
+    for number in 3 * each + 1..=3 * each + each / 4 {
+        let d = long(&mut random);
+        report.kind("long deliveries");
         tried(&mut report, &program, &d, seed, number);
     }
     report.met(1..=9, 100, count);

@@ -1,89 +1,158 @@
 -- The packets of a delivery one after the other, and the source symbols one after the other.
 -- Assumes nothing.
-use mathlib.Core.Path.{_≡_, sym, ap, ap₂, _∙_, subst}
-use mathlib.Core.List.{List}
-use Prim.Native.Nat.{ℕ, _+_, _-_, _*_, _≤_, _<_}
-use native.Mathlib.Nat.{mul-le-mul, add-sub-cancel-left, add-mul, one-mul}
+use mathlib.Core.Path.{_≡_, refl, sym, ap, ap₂, _∙_, subst}
+use mathlib.Core.Bool.{Bool, true, false}
+use mathlib.Core.List.{List, [], _∷_, _++_}
+use Prim.Native.Nat.{ℕ, zero, suc, _+_, _-_, _*_, _/_, _%_, _≤_, _<_}
+use native.Mathlib.Nat.{add-sub-cancel-left, add-mul, add-zero, one-mul, div-add-mod'}
+use native.Mathlib.Numerals.{add-one}
 use native.Mathlib.Decide.{decLt}
 use native.Mathlib.Omega.{arith}
 use lib.Arith.{digits-div, digits-mod}
-use lib.ListN.{length, getD, set, take, drop}
-use lib.Seq.{getD-drop}
+use lib.ListN.{length, getD, take, drop, length-append, length-drop, List·getD-append}
+use lib.Seq.{getD-append-add}
+use Rattle.field.specs.Choice.{pick}
 use Rattle.field.specs.Answer.{Outcome, Left}
 use Rattle.field.specs.Runs.{Written}
-use Rattle.field.proofs.Writing.{written-is, written-from, written-more}
-use Rattle.field.proofs.Parts.{splice, part-is, part-length, part-at, written-part, written-then, block-ends}
+use Rattle.field.proofs.Writing.{written-is, written-from}
+use Rattle.field.proofs.Parts.{splice, part-is, part-length, written-part, written-then, block-ends}
 use Rattle.field.specs.declared.refusal.Answer as Plain
-use Rattle.headers.specs.Headers.{idAt}
 use Rattle.headers.specs.Row.{Obeys, lOf}
 use Rattle.headers.specs.Shift.{shifted}
 use Rattle.headers.specs.declared.row.Row.{Row}
-use Rattle.headers.proofs.Bytes.{number-lt}
 use Rattle.headers.proofs.Shifts.{shifted-below}
-use Rattle.linear.specs.Bytes.{Bytes}
 use Rattle.encoding.specs.Encoded.{Encodes, encoded}
 use Rattle.encoding.proofs.Allowed.{Allowed, encodes-done}
-use Rattle.delivery.specs.Layout.{OneBlock, packet, packetAt, esiAt, octetAt}
+use Rattle.delivery.specs.Layout.{countOf, esiOf, esisIn, isOwn, othersIn, packetAt, packetOf, symbolOf, symbolsIn}
 use Rattle.delivery.specs.Received.{sourceOctet}
 
 -- packet i ends before the n-th begins
 pub packet-ends : (t i n : ℕ) → i < n → packetAt t i + (t + 4) ≤ packetAt t n
 packet-ends t i n h = omega (arith, block-ends (t + 4) h)
 
--- and its place is a number of 64 bits
-pub packet-fits : (t i : ℕ) → t < 65536 → i ≤ 65535 → i * (t + 4) ≤ 65536 * 65540
-packet-fits t i h b = mul-le-mul {n₁ = i} {m₁ = t + 4} {n₂ = 65536} {m₂ = 65540} (omega arith) (omega arith)
-
--- the part of a packet that is its symbol
-pub part-long : (d : List ℕ) (t i n : ℕ) → i < n → packetAt t n ≤ length d → length (take (packetAt t i + 4 + t - (packetAt t i + 4)) (drop (packetAt t i + 4) d)) ≡ t
-part-long d t i n h b = ap length (part-is d (packetAt t i + 4) t) ∙ part-length d (packetAt t i + 4) t (omega (arith, packet-ends t i n h))
-
--- block numbers, one packet after the other
-pub block-none : (d : List ℕ) (t : ℕ) → OneBlock d t 0
-block-none d t = record { first = λ i h. absurd (omega arith) }
-
-pub block-next : {d : List ℕ} {t n : ℕ} → OneBlock d t n → idAt (packet d (packetAt t n)) .«source_block_number» ≡ 0 → OneBlock d t (n + 1)
-block-next {d} {t} {n} u e = record { first = λ i h. go i h (decLt i n) }
-  where
-    go : (i : ℕ) → i < n + 1 → Dec (i < n) → idAt (packet d (packetAt t i)) .«source_block_number» ≡ 0
-    go i h (yes l) = u .first i l
-    go i h (no l) =
-        let q : i ≡ n = omega arith in
-        ap (λ (j : ℕ). idAt (packet d (packetAt t j)) .«source_block_number») q ∙ e
-
-pub block-is : {d : List ℕ} {t m n : ℕ} → OneBlock d t m → m ≡ n → OneBlock d t n
-block-is {d} {t} u e = subst (OneBlock d t) e u
-
--- the ESI of one packet more
-pub gathered-esi : (d : List ℕ) (t : ℕ) {xs ys : List ℕ} {i e : ℕ} → Written (esiAt d t) xs ys 0 i → i < length xs
-    → e ≡ idAt (packet d (packetAt t i)) .«encoding_symbol_id»
-    → Written (esiAt d t) xs (set ys i e) 0 (i + 1)
-unfolding esiAt
-gathered-esi d t w h q = written-more w (omega arith) h q
-
 next : (i t : ℕ) → i * t + t ≡ (i + 1) * t
 next i t = omega (arith, add-mul i 1 t, one-mul t)
 
--- an ESI has 24 bits
-pub esi-small : (d : List ℕ) → Bytes d → (t i : ℕ) → esiAt d t i < 16777216
-unfolding esiAt
-esi-small d b t i = number-lt (packet d (packetAt t i)) 1 3 (λ k. subst (λ (x : ℕ). x < 256) (sym (getD-drop (packetAt t i) d k 0)) (b (packetAt t i + k)))
+-- the whole packets end inside
+pub packets-in : (len t : ℕ) → 4128 ≤ len → packetAt t (countOf len t) ≤ len
+packets-in len t h =
+    let q : (len - 4128) / (t + 4) * (t + 4) + (len - 4128) % (t + 4) ≡ len - 4128 = div-add-mod' (len - 4128) (t + 4) in
+    omega arith
 
--- the symbol of one packet more
-module _ (d : List ℕ) (t i from : ℕ) (some : 0 < t) (e : from ≡ packetAt t i + 4) (inside : from + t ≤ length d) where
-  octet : (k : ℕ) → k < t → getD (take t (drop from d)) k 0 ≡ octetAt d t (i * t + k)
-  unfolding octetAt
-  octet k h =
-      let q : from + k ≡ packetAt t i + 4 + k = omega arith in
-      part-at d from t k h ∙ ap (λ (x : ℕ). getD d x 0) q
-      ∙ ap₂ (λ (x y : ℕ). getD d (packetAt t x + 4 + y) 0) (sym (digits-div i h)) (sym (digits-mod i h))
+-- the part that is packet i
+pub part-packet : (d : List ℕ) (t i n : ℕ) → i < n → packetAt t n ≤ length d
+    → (take (packetAt t i + (t + 4) - packetAt t i) (drop (packetAt t i) d) ≡ packetOf d t i)
+    × (length (take (packetAt t i + (t + 4) - packetAt t i) (drop (packetAt t i) d)) ≡ t + 4)
+part-packet d t i n h b =
+    let e = part-is d (packetAt t i) (t + 4) in
+    (e, ap length e ∙ part-length d (packetAt t i) (t + 4) (omega (arith, packet-ends t i n h)))
 
-  pub symbol-more : {xs ys zs : List ℕ} → Written (octetAt d t) xs ys 0 (i * t)
-      → Written (λ k. getD (take (from + t - from) (drop from d)) k 0) ys zs (i * t) (length (take (from + t - from) (drop from d)))
-      → Written (octetAt d t) xs zs 0 ((i + 1) * t)
-  symbol-more w u =
-      let v = written-is (rw (part-is d from t) at u) (part-length d from t inside) in
-      written-is (written-then w (written-from v (omega arith)) octet) (next i t)
+pub others-none : (d : List ℕ) (t : ℕ) → 0 ≡ othersIn d t 0
+unfolding othersIn
+others-none d t = refl
+
+-- ---- the packets of the block, one after the other
+
+module _ (d : List ℕ) (t : ℕ) where
+  -- a packet that is there has all its bytes
+  pub packet-whole : (i : ℕ) → packetAt t i + (t + 4) ≤ length d → length (packetOf d t i) ≡ t + 4
+  packet-whole i h = part-length d (packetAt t i) (t + 4) h
+
+  pub others-more : (n : ℕ) → othersIn d t (n + 1) ≡ pick (isOwn (packetOf d t n)) (othersIn d t n) (othersIn d t n + 1)
+  unfolding othersIn
+  others-more n = rw add-one refl
+
+  -- there are no more than there are packets
+  pub others-most : (n : ℕ) → othersIn d t n ≤ n
+  unfolding othersIn
+  others-most zero = omega arith
+  others-most (suc n) = go (isOwn (packetOf d t n)) (others-most n)
+    where
+      go : (b : Bool) → othersIn d t n ≤ n → pick b (othersIn d t n) (othersIn d t n + 1) ≤ suc n
+      go true h = omega arith
+      go false h = omega arith
+
+  -- as many symbols as ESIs
+  pub symbols-long : (n : ℕ) → packetAt t n ≤ length d → length (symbolsIn d t n) ≡ length (esisIn d t n) * t
+  unfolding symbolsIn esisIn
+  symbols-long zero h = omega arith
+  symbols-long (suc n) h =
+      let q = packet-ends t n (suc n) (omega arith) in
+      go (packetOf d t n) (isOwn (packetOf d t n)) (symbols-long n (omega arith)) (packet-whole n (omega arith))
+    where
+      go : (p : List ℕ) (b : Bool) → length (symbolsIn d t n) ≡ length (esisIn d t n) * t → length p ≡ t + 4
+          → length (pick b (symbolsIn d t n ++ symbolOf p) (symbolsIn d t n)) ≡ length (pick b (esisIn d t n ++ (esiOf p ∷ [])) (esisIn d t n)) * t
+      go p true e l =
+          let m : length (symbolsIn d t n) + length (drop 4 p) ≡ length (esisIn d t n) * t + t = omega (arith, length-drop 4 p) in
+          length-append (symbolsIn d t n) (symbolOf p) ∙ m ∙ next (length (esisIn d t n)) t
+          ∙ ap (λ (x : ℕ). x * t) (sym (length-append (esisIn d t n) (esiOf p ∷ [])))
+      go p false e l = e
+
+-- a list that may have got an end: what stood in it stands there
+grown : (b : Bool) (xs ys : List ℕ) (i : ℕ) → i < length xs → (getD (pick b (xs ++ ys) xs) i 0 ≡ getD xs i 0) × (i < length (pick b (xs ++ ys) xs))
+grown true xs ys i h = (List·getD-append xs ys 0 i h, omega (arith, length-append xs ys))
+grown false xs ys i h = (refl, h)
+
+-- Packet i, of the block, has its place in both lists: behind those before it.
+module _ (d : List ℕ) (t i : ℕ) (own : isOwn (packetOf d t i) ≡ true) where
+  last : (getD (esisIn d t (suc i)) (length (esisIn d t i)) 0 ≡ esiOf (packetOf d t i)) × (length (esisIn d t i) < length (esisIn d t (suc i)))
+  unfolding esisIn
+  last = rw own (
+    ap (λ (x : ℕ). getD (esisIn d t i ++ (esiOf (packetOf d t i) ∷ [])) x 0) (sym (add-zero (length (esisIn d t i))))
+        ∙ getD-append-add (esisIn d t i) (esiOf (packetOf d t i) ∷ []) 0 0,
+    omega (arith, length-append (esisIn d t i) (esiOf (packetOf d t i) ∷ [])),
+  )
+
+  pub esi-there : (n : ℕ) → i < n
+      → (getD (esisIn d t n) (length (esisIn d t i)) 0 ≡ esiOf (packetOf d t i)) × (length (esisIn d t i) < length (esisIn d t n))
+  unfolding esisIn
+  esi-there zero h = absurd (omega arith)
+  esi-there (suc n) h = go (decLt i n) (esi-there n)
+    where
+      go : Dec (i < n) → (i < n → (getD (esisIn d t n) (length (esisIn d t i)) 0 ≡ esiOf (packetOf d t i)) × (length (esisIn d t i) < length (esisIn d t n)))
+          → (getD (esisIn d t (suc n)) (length (esisIn d t i)) 0 ≡ esiOf (packetOf d t i)) × (length (esisIn d t i) < length (esisIn d t (suc n)))
+      go (yes l) f =
+          let g = grown (isOwn (packetOf d t n)) (esisIn d t n) (esiOf (packetOf d t n) ∷ []) (length (esisIn d t i)) (f l .1) in
+          (g .0 ∙ f l .0, g .1)
+      go (no l) f =
+          let e : i ≡ n = omega arith in
+          subst (λ (m : ℕ). (getD (esisIn d t (suc m)) (length (esisIn d t i)) 0 ≡ esiOf (packetOf d t i)) ×
+          (length (esisIn d t i) < length (esisIn d t (suc m)))) e
+          last
+
+  -- and its symbol, byte b of it, at T times that place
+  module _ (b : ℕ) (s : b < t) where
+    symbol-last : packetAt t (suc i) ≤ length d
+        → (getD (symbolsIn d t (suc i)) (length (symbolsIn d t i) + b) 0 ≡ getD (symbolOf (packetOf d t i)) b 0)
+        × (length (symbolsIn d t i) + b < length (symbolsIn d t (suc i)))
+    unfolding symbolsIn
+    symbol-last h =
+        let l = packet-whole d t i (omega (arith, packet-ends t i (suc i) (omega arith))) in
+        rw own (
+          getD-append-add (symbolsIn d t i) (symbolOf (packetOf d t i)) b 0,
+          omega (arith, length-append (symbolsIn d t i) (symbolOf (packetOf d t i)), length-drop 4 (packetOf d t i)),
+        )
+
+    pub symbol-there : (n : ℕ) → i < n → packetAt t n ≤ length d
+        → (getD (symbolsIn d t n) (length (symbolsIn d t i) + b) 0 ≡ getD (symbolOf (packetOf d t i)) b 0)
+        × (length (symbolsIn d t i) + b < length (symbolsIn d t n))
+    unfolding symbolsIn
+    symbol-there zero h u = absurd (omega arith)
+    symbol-there (suc n) h u = go (decLt i n) (λ l. symbol-there n l (omega (arith, packet-ends t n (suc n) (omega arith))))
+      where
+        go : Dec (i < n)
+            → (i < n → (getD (symbolsIn d t n) (length (symbolsIn d t i) + b) 0 ≡ getD (symbolOf (packetOf d t i)) b 0)
+            × (length (symbolsIn d t i) + b < length (symbolsIn d t n)))
+            → (getD (symbolsIn d t (suc n)) (length (symbolsIn d t i) + b) 0 ≡ getD (symbolOf (packetOf d t i)) b 0)
+            × (length (symbolsIn d t i) + b < length (symbolsIn d t (suc n)))
+        go (yes l) f =
+            let g = grown (isOwn (packetOf d t n)) (symbolsIn d t n) (symbolOf (packetOf d t n)) (length (symbolsIn d t i) + b) (f l .1) in
+            (g .0 ∙ f l .0, g .1)
+        go (no l) f =
+            let e : i ≡ n = omega arith in
+            subst (λ (m : ℕ). (getD (symbolsIn d t (suc m)) (length (symbolsIn d t i) + b) 0 ≡ getD (symbolOf (packetOf d t i)) b 0)
+            × (length (symbolsIn d t i) + b < length (symbolsIn d t (suc m)))) e
+            (symbol-last (subst (λ (m : ℕ). packetAt t (suc m) ≤ length d) (sym e) u))
 
 -- the source symbol of one ESI more
 module _ (v : List ℕ) (r : Row) (k t i from : ℕ) (C ys : List ℕ) (o : Obeys r) (all : length v ≡ 1024) (h : k ≤ r .kp)
@@ -103,16 +172,19 @@ module _ (v : List ℕ) (r : Row) (k t i from : ℕ) (C ys : List ℕ) (o : Obey
     fits = omega (arith, long);
   }
 
-  encodes-it : {zs : List ℕ} {a : Plain.Answer} → Encodes v r k t i C (take t (drop from ys)) zs a → Written (encoded v r (shifted i k (r .kp)) t C) (take t (drop from ys)) zs 0 t
+  encodes-it : {zs : List ℕ} {a : Plain.Answer} → Encodes v r k t i C (take t (drop from ys)) zs a → Written (encoded v r (shifted i k (r .kp)) t C)
+      (take t (drop from ys)) zs 0 t
   encodes-it {zs} u =
-      subst (λ (p : Outcome (Unit {0})). Left p (take t (drop from ys)) zs (Written (encoded v r (shifted i k (r .kp)) t C) (take t (drop from ys)) zs 0 t)) (encodes-done may u) (u .memory)
+      subst (λ (p : Outcome (Unit {0})). Left p (take t (drop from ys)) zs (Written (encoded v r (shifted i k (r .kp)) t C) (take t (drop from ys)) zs 0 t))
+      (encodes-done may u) (u .memory)
 
   octet-is : (x : ℕ) → x < t → encoded v r (shifted i k (r .kp)) t C x ≡ sourceOctet v r t C (i * t + x)
   octet-is x l =
       ap (λ (n : ℕ). encoded v r n t C x) (shifted-below k (r .kp) i below)
       ∙ ap₂ (λ (n y : ℕ). encoded v r n t C y) (sym (digits-div i l)) (sym (digits-mod i l))
 
-  pub block-more : {xs zs : List ℕ} {a : Plain.Answer} → Written (sourceOctet v r t C) xs ys 0 (i * t) → Encodes v r k t i C (take (from + t - from) (drop from ys)) zs a
+  pub block-more : {xs zs : List ℕ} {a : Plain.Answer} → Written (sourceOctet v r t C) xs ys 0 (i * t) → Encodes v r k t i C
+      (take (from + t - from) (drop from ys)) zs a
       → Written (sourceOctet v r t C) xs (splice ys from (from + t - from) zs) 0 ((i + 1) * t)
   block-more w u =
       let m = written-part ys from t (encodes-it (rw (add-sub-cancel-left from t) at u)) inside (omega arith) in

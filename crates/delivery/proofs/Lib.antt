@@ -3,4 +3,5 @@ pub mod Lists
 pub mod Screening
 pub mod Gathering
 pub mod Settling
+pub mod Continued
 pub mod Outcomes

@@ -17,6 +17,9 @@ reach {x} h e = subst (λ (k : ℕ). x ≤ k) e h
 pub no-more : {m n : ℕ} → m ≡ n → m ≤ n
 no-more e = omega arith
 
+pub within : {m n x : ℕ} → m ≡ n → m ≤ x → n ≤ x
+within {x = x} e h = subst (λ (k : ℕ). k ≤ x) e h
+
 pub tabulated : {f : ℕ → ℕ} {xs ys : List ℕ} {n : ℕ} → Written f xs ys 0 n → n ≤ length xs → take n ys ≡ tabulate n f
 tabulated {f} {xs} {ys} {n} w h =
     let l : length (take n ys) ≡ n = length-take-le n ys (omega (arith, w .size)) in

@@ -1,9 +1,11 @@
 -- A delivery, byte by byte (docs/DELIVERY.md): transmission information, row, tables, packets.
 -- Assumes nothing.
-use mathlib.Core.Path.{_≡_}
-use mathlib.Core.List.{List}
-use Prim.Native.Nat.{ℕ, _+_, _-_, _*_, _/_, _%_, _<_}
-use lib.ListN.{length, getD, drop}
+use mathlib.Core.Bool.{Bool, not}
+use mathlib.Core.List.{List, [], _∷_, _++_}
+use Prim.Native.Nat.{ℕ, zero, suc, _+_, _-_, _*_, _/_, _%_}
+use lib.Dec.{eqb}
+use lib.ListN.{length, take, drop}
+use Rattle.field.specs.Choice.{pick}
 use Rattle.headers.specs.Bytes.{number}
 use Rattle.headers.specs.Headers.{idAt, infoAt}
 use Rattle.headers.specs.Quotient.{ceil}
@@ -11,6 +13,7 @@ use Rattle.headers.specs.Row.{rowOf}
 use Rattle.headers.specs.declared.row.Row.{Row}
 use Rattle.headers.specs.declared.transmission.ObjectTransmissionInformation.{ObjectTransmissionInformation}
 use Rattle.linear.specs.Bytes.{tabulate}
+use Rattle.delivery.specs.declared.beneath.packets.Passed.{Passed}
 
 -- the first twelve bytes
 unfoldable pub infoOf : List ℕ → ObjectTransmissionInformation
@@ -37,35 +40,55 @@ entryAt d i = number d (32 + 4 * i) 4
 unfoldable pub tablesOf : List ℕ → List ℕ
 tablesOf d = tabulate 1024 (entryAt d)
 
--- how many whole packets with symbols of t bytes there are in a delivery of `len` bytes, and where packet i begins
+-- how many whole packets with symbols of t bytes there are in a delivery of `len` bytes, how many bytes are left, of a last one that is not whole,
+-- and where packet i begins
 abbrev pub countOf : ℕ → ℕ → ℕ
 countOf len t = (len - 4128) / (t + 4)
+
+abbrev pub leftOf : ℕ → ℕ → ℕ
+leftOf len t = (len - 4128) % (t + 4)
 
 abbrev pub packetAt : ℕ → ℕ → ℕ
 packetAt t i = 4128 + i * (t + 4)
 
--- what stands from a place on
-abbrev pub packet : List ℕ → ℕ → List ℕ
-packet d at = drop at d
+-- packet i
+abbrev pub packetOf : List ℕ → ℕ → ℕ → List ℕ
+packetOf d t i = take (t + 4) (drop (packetAt t i) d)
 
--- the ESI of packet i
-unfoldable pub esiAt : List ℕ → ℕ → ℕ → ℕ
-esiAt d t i = idAt (packet d (packetAt t i)) .«encoding_symbol_id»
+-- of a packet: its ESI, its symbol, and whether it is of block 0
+abbrev pub esiOf : List ℕ → ℕ
+esiOf p = idAt p .«encoding_symbol_id»
 
--- byte x of the symbols, one after the other
-unfoldable pub octetAt : List ℕ → ℕ → ℕ → ℕ
-octetAt d t x = getD d (packetAt t (x / t) + 4 + x % t) 0
+abbrev pub symbolOf : List ℕ → List ℕ
+symbolOf p = drop 4 p
 
--- each of the first n packets is of block 0
-pub record OneBlock (d : List ℕ) (t n : ℕ) : Type 0 where
-  pub first : (i : ℕ) → i < n → idAt (packet d (packetAt t i)) .«source_block_number» ≡ 0
+abbrev pub isOwn : List ℕ → Bool
+isOwn p = eqb (idAt p .«source_block_number») 0
 
--- the packets of a delivery: how many, their ESIs, and their symbols
+-- of the first n packets those of block 0, in their order: their ESIs, and their symbols one after the other
+unfoldable pub esisIn : List ℕ → ℕ → ℕ → List ℕ
+esisIn d t zero = []
+esisIn d t (suc n) = pick (isOwn (packetOf d t n)) (esisIn d t n ++ (esiOf (packetOf d t n) ∷ [])) (esisIn d t n)
+
+unfoldable pub symbolsIn : List ℕ → ℕ → ℕ → List ℕ
+symbolsIn d t zero = []
+symbolsIn d t (suc n) = pick (isOwn (packetOf d t n)) (symbolsIn d t n ++ symbolOf (packetOf d t n)) (symbolsIn d t n)
+
+-- and how many are of another
+unfoldable pub othersIn : List ℕ → ℕ → ℕ → ℕ
+othersIn d t zero = 0
+othersIn d t (suc n) = pick (isOwn (packetOf d t n)) (othersIn d t n) (othersIn d t n + 1)
+
+-- how many whole packets a delivery has; of those of its block the ESIs and the symbols
 abbrev pub nOf : List ℕ → ℕ
 nOf d = countOf (length d) (tOf d)
 
-unfoldable pub esisOf : List ℕ → List ℕ
-esisOf d = tabulate (nOf d) (esiAt d (tOf d))
+abbrev pub esisOf : List ℕ → List ℕ
+esisOf d = esisIn d (tOf d) (nOf d)
 
-unfoldable pub symbolsOf : List ℕ → List ℕ
-symbolsOf d = tabulate (nOf d * tOf d) (octetAt d (tOf d))
+abbrev pub symbolsOf : List ℕ → List ℕ
+symbolsOf d = symbolsIn d (tOf d) (nOf d)
+
+-- what is passed over: the packets of other blocks, and a last packet that is not whole
+abbrev pub passedOf : List ℕ → Passed
+passedOf d = record { others = othersIn d (tOf d) (nOf d); cut = not (eqb (leftOf (length d) (tOf d)) 0) }

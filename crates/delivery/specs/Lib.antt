@@ -2,3 +2,4 @@
 pub mod Layout
 pub mod Screen
 pub mod Received
+pub mod Hearing

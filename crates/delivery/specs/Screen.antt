@@ -1,29 +1,26 @@
--- When a delivery is taken: the first thing wrong with it, in the order in which its bytes are read.
+-- When a delivery is taken (docs/DELIVERY.md): the first thing wrong with it, in the order in which its bytes are read. Its first 4,128 bytes decide.
 -- Assumes nothing.
-use mathlib.Core.Bool.{Bool, true, not}
+use mathlib.Core.Bool.{not}
 use mathlib.Core.List.{List}
-use Prim.Native.Nat.{ℕ, zero, suc, _+_, _-_, _%_}
+use Prim.Native.Nat.{ℕ}
 use lib.Dec.{eqb, ltb}
 use lib.ListN.{length}
 use Rattle.field.specs.Answer.{Outcome, given, refused, unless, before, codeOf}
-use Rattle.field.specs.Choice.{both}
-use Rattle.headers.specs.Headers.{infoChecked, idAt}
+use Rattle.headers.specs.Headers.{infoChecked}
 use Rattle.headers.specs.Row.{verified, lOf}
 use Rattle.headers.specs.declared.row.Row.{Row}
 use Rattle.headers.specs.declared.transmission.ObjectTransmissionInformation.{ObjectTransmissionInformation}
-use Rattle.solver.specs.System.{fixed}
-use Rattle.delivery.specs.Layout.{infoOf, rowIn, tOf, kOf, countOf, packet, packetAt}
+use Rattle.delivery.specs.Layout.{infoOf, rowIn, tOf, kOf}
 use Rattle.delivery.specs.declared.beneath.screen.Stop.{Stop}
 use Rattle.delivery.specs.declared.beneath.screen.Stop.the-variants as Stops
 use Rattle.delivery.specs.declared.beneath.screen.Screened.{Screened}
 use Rattle.delivery.specs.declared.beneath.screen.Screened.the-variants as Screeneds
 
--- the codes of refusals, and three numbers that are none of them for what this program alone does not take
+-- the codes of refusals, and two numbers that are none of them for what this program alone does not take
 abbrev pub stopOf : Stop → ℕ
 stopOf (Stops.Refused why) = codeOf why
 stopOf Stops.TooLarge = 101
 stopOf Stops.SeveralBlocks = 102
-stopOf Stops.OtherBlock = 103
 
 abbrev pub screened : Screened → Outcome (Unit {0})
 screened Screeneds.Passed = given tt
@@ -43,22 +40,12 @@ abbrev pub rowScreen : Row → ℕ → ℕ → Outcome (Unit {0})
 rowScreen r k t =
     before (verified r) (unless (ltb k 1) 9 (unless (ltb (r .kp) k) 9 (unless (ltb 1024 t) 101 (unless (ltb 300 (lOf r)) 101 (given tt)))))
 
--- all of the tables, not too many equations, and whole packets: of `len` bytes, with `fixed` equations beside those of the packets
-abbrev pub lengthScreen : ℕ → ℕ → ℕ → Outcome (Unit {0})
-lengthScreen len t fixed =
-    unless (ltb len 4128) 5 (unless (ltb 360 (fixed + countOf len t)) 101 (unless (not (eqb ((len - 4128) % (t + 4)) 0)) 10 (given tt)))
-
--- each of the first n packets is of block 0
-unfoldable pub oneBlock : List ℕ → ℕ → ℕ → Bool
-oneBlock d t zero = true
-oneBlock d t (suc n) = both (eqb (idAt (packet d (packetAt t n)) .«source_block_number») 0) (oneBlock d t n)
-
-abbrev pub packetsScreen : List ℕ → Row → ℕ → ℕ → Outcome (Unit {0})
-packetsScreen d r k t =
-    before (lengthScreen (length d) t (fixed r k)) (unless (not (oneBlock d t (countOf (length d) t))) 103 (given tt))
+-- all of the tables
+abbrev pub tablesScreen : List ℕ → Outcome (Unit {0})
+tablesScreen d = unless (ltb (length d) 4128) 5 (given tt)
 
 abbrev pub restScreen : List ℕ → ℕ → ℕ → Outcome (Unit {0})
-restScreen d k t = before (rowScreen (rowIn d) k t) (packetsScreen d (rowIn d) k t)
+restScreen d k t = before (rowScreen (rowIn d) k t) (tablesScreen d)
 
 unfoldable pub screen : List ℕ → Outcome (Unit {0})
 screen d = unless (ltb (length d) 32) 8 (before (infoScreen (infoOf d)) (restScreen d (kOf d) (tOf d)))

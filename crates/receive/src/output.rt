@@ -1,12 +1,17 @@
-// Writing: the object to standard output, or to a file beside OUT that takes OUT's name when it is whole; words to standard error.
+// Writing: the object to standard output, or to a file beside OUT that takes OUT's name when it is whole; notes and words to standard error.
 ghost use Prim.Native.Nat.{_≤_};
 ghost use lib.ListN.{length};
 ghost use Rattle.reply.specs.Replies.{InStore};
+use delivery::beneath::packets::Passed;
+use delivery::beneath::screen::Stop;
+use elimination::verdict::Verdict;
 use libc::STDERR_FILENO;
 use libc::STDOUT_FILENO;
 use reply::beneath::arguments::Misuse;
 use reply::beneath::names;
+use reply::beneath::notes;
 use reply::beneath::replying::Reply;
+use reply::beneath::rows::Typed;
 use reply::beneath::words;
 use reply::beneath::words::Failure;
 
@@ -14,6 +19,26 @@ pub fn misused(why: Misuse) {
     let mut line = [0u8; 200];
     let n = words::misused(&mut line, why);
     io::write_all(STDERR_FILENO, &line[..n]);
+}
+
+// Why a delivery is not taken; t: the numbers of its row.
+pub fn stopped(why: Stop, t: Typed) {
+    let mut line = [0u8; 200];
+    let n = words::stopped(&mut line, why, t);
+    io::write_all(STDERR_FILENO, &line[..n]);
+}
+
+// How it stands after n packets of its block.
+pub fn progress(n: u64, v: Verdict) {
+    let mut line = [0u8; 200];
+    let k = notes::progress(&mut line, n, v);
+    io::write_all(STDERR_FILENO, &line[..k]);
+}
+
+pub fn note(passed: Passed) {
+    let mut lines = [0u8; 200];
+    let n = notes::passed(&mut lines, passed);
+    io::write_all(STDERR_FILENO, &lines[..n]);
 }
 
 // With the system's reason for the call that failed just before.

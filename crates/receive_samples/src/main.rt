@@ -1,5 +1,5 @@
 // The receiving program's work on each delivery of data/, which differential/samples makes. For each its name, what it comes to (the bytes of an object,
-// for standard output, or words, for standard error), how many bytes that is, and these bytes.
+// for standard output, or words, for standard error), how many bytes that is, these bytes, and the notes on it.
 ghost use Rattle.reply.specs.Replies.{InStore};
 use libc::STDOUT_FILENO;
 use reply::beneath::replying;
@@ -28,12 +28,16 @@ fn sample(name: &[u8]) {
         io::write_all(STDOUT_FILENO, b": cannot be opened\n");
         return;
     }
-    let mut input = [0u8; 375236];
+    let mut input = [0u8; 40000];
     let n = io::read_full(fd, &mut input);
     libc::close(fd);
+    let mut lines = [0u8; 200];
     let mut store = [0u8; 307200];
-    let reply = replying::reply_to(&input[..n], &mut store);
+    let spoken = replying::reply_to(&input[..n], &mut lines, &mut store);
+    let reply = spoken.reply;
+    let noted = spoken.notes;
     show(reply, &store);
+    io::write_all(STDOUT_FILENO, &lines[..noted]);
 }
 
 fn answered() {
@@ -41,6 +45,10 @@ fn answered() {
     sample(b"repaired");
     sample(b"repair-only");
     sample(b"twice");
+    sample(b"many-times");
+    sample(b"others-between");
+    sample(b"other-block");
+    sample(b"cut-packet");
     sample(b"one-line");
     sample(b"open");
     sample(b"no-packets");
@@ -68,10 +76,8 @@ fn not_taken() {
     sample(b"cut-head");
     sample(b"empty");
     sample(b"no-object");
-    sample(b"cut-packet");
     sample(b"large-symbols");
     sample(b"two-blocks");
-    sample(b"other-block");
 }
 
 fn main() {

@@ -1,7 +1,7 @@
--- What is written of a delivery, and to which stream.
+-- What is written of a delivery, and to which stream (docs/DELIVERY.md).
 -- Assumes nothing.
 use mathlib.Core.Path.{_≡_}
-use mathlib.Core.List.{List, []}
+use mathlib.Core.List.{List, [], _++_}
 use Prim.Native.Nat.{ℕ}
 use lib.ListN.{take}
 use Rattle.io.specs.Counts.{Counts}
@@ -12,19 +12,23 @@ use Rattle.delivery.specs.declared.beneath.receiver.Received.{Received}
 use Rattle.delivery.specs.declared.beneath.receiver.Received.the-variants.{Taken, Stopped}
 use Rattle.reply.specs.Ascii.{ascii}
 use Rattle.reply.specs.Rows.{typedIn}
-use Rattle.reply.specs.Words.{Line, openWords, stopWords}
+use Rattle.reply.specs.Words.{Line, openWords, passedWords, stopWords}
 use Rattle.reply.specs.declared.beneath.rows.Typed.{Typed}
+use Rattle.reply.specs.declared.beneath.replying.Spoken.{Spoken}
 use Rattle.reply.specs.declared.beneath.replying.Reply.{Reply}
 use Rattle.reply.specs.declared.beneath.replying.Reply.the-variants.{Object, Words}
 
--- what standard output (or the file OUT) gets, and what standard error gets, of a store
+-- what standard output (or the file OUT) gets of a store, and standard error, behind the notes of another
 abbrev pub toOutput : Reply → List ℕ → List ℕ
 toOutput (Object n) ys = take n ys
 toOutput (Words n) ys = []
 
-abbrev pub toError : Reply → List ℕ → List ℕ
-toError (Object n) ys = []
-toError (Words n) ys = take n ys
+abbrev pub wordsIn : Reply → List ℕ → List ℕ
+wordsIn (Object n) ys = []
+wordsIn (Words n) ys = take n ys
+
+abbrev pub toError : Spoken → (ms ys : List ℕ) → List ℕ
+toError s ms ys = take (s .notes) ms ++ wordsIn (s .reply) ys
 
 -- there are as many bytes
 abbrev pub InStore : Reply → List ℕ → Type 0
@@ -44,12 +48,18 @@ SaidOf f xs ys r (Open s) = InWords (openWords s) xs ys r
 
 -- t: the numbers of the row
 abbrev pub Said : Typed → (xs ys : List ℕ) → Reply → Received → Type 0
-Said t xs ys r (Taken verdict f) = SaidOf f xs ys r verdict
+Said t xs ys r (Taken verdict f p) = SaidOf f xs ys r verdict
 Said t xs ys r (Stopped why) = InWords (stopWords t why) xs ys r
 
--- The contract: what comes of the delivery d, said.
-pub record Replied (d xs ys : List ℕ) (r : Reply) : Type 0 where
+-- the notes at the end: what was passed over
+abbrev pub notesOf : Received → List ℕ
+notesOf (Taken verdict f p) = passedWords p
+notesOf (Stopped why) = []
+
+-- The contract: what comes of the delivery d, said, and the notes on it; ls and ms are their store before and after.
+pub record Replied (d ls ms xs ys : List ℕ) (s : Spoken) : Type 0 where
   pub what : Received
   pub store : List ℕ
   pub comes : Comes d xs store what
-  pub said : Said (typedIn d) store ys r what
+  pub noted : Line (notesOf what) ls ms (s .notes)
+  pub said : Said (typedIn d) store ys (s .reply) what

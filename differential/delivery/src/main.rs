@@ -27,6 +27,8 @@ struct Wish {
     repair: u32,
     first_repair: u32,
     twice: usize,
+    times: usize,
+    others: usize,
     damage: String,
     row: Option<[u32; 5]>,
     seed: u64,
@@ -43,7 +45,20 @@ fn row(option: &str, value: &str) -> Result<[u32; 5], String> {
 }
 
 fn wish() -> Result<Wish, Box<dyn Error>> {
-    let mut w = Wish { files: vec![], symbol_size: 64, alignment: 1, lose: 0, repair: 0, first_repair: 0, twice: 0, damage: "none".into(), row: None, seed: 1 };
+    let mut w = Wish {
+        files: vec![],
+        symbol_size: 64,
+        alignment: 1,
+        lose: 0,
+        repair: 0,
+        first_repair: 0,
+        twice: 0,
+        times: 1,
+        others: 0,
+        damage: "none".into(),
+        row: None,
+        seed: 1,
+    };
     let mut words = std::env::args().skip(1);
     while let Some(word) = words.next() {
         if !word.starts_with("--") {
@@ -58,6 +73,8 @@ fn wish() -> Result<Wish, Box<dyn Error>> {
             "--repair" => w.repair = number(&word, &value)?,
             "--first-repair" => w.first_repair = number(&word, &value)?,
             "--twice" => w.twice = number(&word, &value)?,
+            "--times" => w.times = number(&word, &value)?,
+            "--others" => w.others = number(&word, &value)?,
             "--damage" => w.damage = value,
             "--row" => w.row = Some(row(&word, &value)?),
             "--seed" => w.seed = number(&word, &value)?,
@@ -73,7 +90,8 @@ fn wish() -> Result<Wish, Box<dyn Error>> {
     Ok(w)
 }
 
-/// The packets that arrive: source packets but those lost, repair packets, some of them twice, in an order that the seed gives.
+/// The packets that arrive: source packets but those lost, repair packets, all of them so many times, some once more, and packets of block 1 between them,
+/// in an order that the seed gives.
 fn arrivals(w: &Wish, encoder: &Encoder, random: &mut Random) -> Result<Vec<Vec<u8>>, Box<dyn Error>> {
     let block = &encoder.get_block_encoders()[0];
     let mut packets = block.source_packets();
@@ -85,8 +103,14 @@ fn arrivals(w: &Wish, encoder: &Encoder, random: &mut Random) -> Result<Vec<Vec<
     }
     packets.extend(block.repair_packets(w.first_repair, w.repair));
     let mut packets: Vec<Vec<u8>> = packets.iter().map(|p| p.serialize()).collect();
+    packets = std::iter::repeat_n(packets, w.times).flatten().collect();
     for _ in 0..w.twice.min(packets.len()) {
         packets.push(packets[random.below(packets.len())].clone());
+    }
+    for _ in 0..w.others {
+        let mut other: Vec<u8> = (0..4 + w.symbol_size).map(|_| random.below(256) as u8).collect();
+        other[0] = 1;
+        packets.push(other);
     }
     for i in (1..packets.len()).rev() {
         packets.swap(i, random.below(i + 1));

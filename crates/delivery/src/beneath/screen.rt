@@ -1,11 +1,10 @@
-// May a delivery be taken? The first thing that is wrong, in the order in which its bytes are read.
+// May a delivery be taken? The first thing that is wrong, in the order in which its bytes are read; the first 4,128 decide.
 ghost use mathlib.Core.Path.{_≡_};
-ghost use Prim.Native.Nat.{_≤_, _<_};
+ghost use Prim.Native.Nat.{_≤_};
 ghost use lib.ListN.{length};
-ghost use Rattle.headers.specs.Row.{Obeys, lOf};
-ghost use Rattle.delivery.specs.Screen.{infoScreen, lengthScreen, packetsScreen, restScreen, rowScreen, screen as Screen·screen, screened, shapeScreen};
+ghost use Rattle.headers.specs.Row.{Obeys};
+ghost use Rattle.delivery.specs.Screen.{infoScreen, restScreen, rowScreen, screen as Screen·screen, screened, shapeScreen};
 use crate::beneath::layout;
-use crate::beneath::packets;
 use field::refusal;
 use field::refusal::Refusal;
 use headers::beneath::util;
@@ -13,14 +12,12 @@ use headers::row::Checked;
 use headers::row::Row;
 use headers::transmission;
 use headers::transmission::ObjectTransmissionInformation;
-use solver::beneath::sizes;
 
 // Why not: a refusal of document 01, or what this program alone does not take.
 pub enum Stop {
     Refused(Refusal),
     TooLarge,
     SeveralBlocks,
-    OtherBlock,
 }
 
 pub enum Screened {
@@ -72,39 +69,6 @@ fn screen_row(r: Row, k: u64, t: u16) -> Screened
     Screened::Passed
 }
 
-// `len` bytes in all, and `fixed` equations beside those of the packets.
-fn screen_length(len: usize, t: usize, fixed: usize) -> Screened
-    requires { ⌜ (t < 65536) × (fixed ≤ 360) ⌝ }
-    ensures { λ a. ⌜ screened a ≡ lengthScreen len t fixed ⌝ }
-{
-    if len < 4128 {
-        return Screened::Stopped(Stop::Refused(Refusal::BadTables));
-    }
-    if packets::count(len, t) > 360 - fixed {
-        return Screened::Stopped(Stop::TooLarge);
-    }
-    if (len - 4128) % (t + 4) != 0 {
-        return Screened::Stopped(Stop::Refused(Refusal::BadSize));
-    }
-    Screened::Passed
-}
-
-fn screen_packets(bytes: &[u8], r: Row, k: u32, t: usize) -> Screened
-    requires { ⌜ Obeys r × (1 ≤ k) × (k ≤ r .kp) × (lOf r ≤ 300) × (t < 65536) ⌝ }
-    ensures { λ a. ⌜ screened a ≡ packetsScreen (now (bytes .entry)) r k t ⌝ }
-{
-    let len = bytes.len();
-    let fixed = sizes::fixed(r, k);
-    let fine = screen_length(len, t, fixed);
-    let Screened::Passed = fine else {
-        return fine;
-    };
-    if !packets::one_block(bytes, t, packets::count(len, t)) {
-        return Screened::Stopped(Stop::OtherBlock);
-    }
-    Screened::Passed
-}
-
 fn screen_rest(bytes: &[u8], k: u64, t: u16) -> Screened
     requires { ⌜ 32 ≤ length (now bytes) ⌝ }
     ensures { λ a. ⌜ screened a ≡ restScreen (now (bytes .entry)) k t ⌝ }
@@ -115,7 +79,10 @@ fn screen_rest(bytes: &[u8], k: u64, t: u16) -> Screened
             let Screened::Passed = fine else {
                 return fine;
             };
-            screen_packets(bytes, r, k as u32, t as usize)
+            if bytes.len() < 4128 {
+                return Screened::Stopped(Stop::Refused(Refusal::BadTables));
+            }
+            Screened::Passed
         }
         Checked::Refused(why) => Screened::Stopped(Stop::Refused(why)),
     }

@@ -1,6 +1,7 @@
 -- `receive::run` is safe.
 -- Assumes nothing.
-use mathlib.Core.Path.{subst}
+use mathlib.Core.Path.{refl, sym, _∙_, subst}
+use Rattle.delivery.proofs.Lists.{no-more}
 use Rattle.receive.specs.Input.{InputInside}
 use Rattle.receive.specs.declared.input.Input.{Input}
 use borrow.Author.Needs.{needs}
@@ -25,23 +26,56 @@ fail-requires c κs = search needs
 returns : tie.Need-returns
 returns c = search needs
 
-array-share-prefix-bytes : tie.Need-array-share-prefix-bytes
-array-share-prefix-bytes c = subst (λ (r : Input). InputInside r (c .before .before .before .before .read-all .last .1 .0)) (c .before .read .given .1) (c .before .before .before .before .read-all .ensures) .0
+array-share-prefix-head : tie.Need-array-share-prefix-head
+array-share-prefix-head c =
+    let r = c .before .before .before .before .read-all in
+    subst (λ (x : Input). InputInside x (r .last .1 .0)) (c .before .read .given .1) (r .ensures) .0
 
-slice-aggregate-reply-to : tie.Need-slice-aggregate-reply-to
-slice-aggregate-reply-to c = subst (λ (r : Input). InputInside r (c .before .before .before .before .before .read-all .last .1 .0)) (c .before .before .read .given .1) (c .before .before .before .before .before .read-all .ensures) .1
+slice-aggregate-take : tie.Need-slice-aggregate-take
+slice-aggregate-take c =
+    let r = c .before .before .before .before .before .read-all in
+    subst (λ (x : Input). InputInside x (r .last .1 .0)) (c .before .before .read .given .1) (r .ensures) .1
 
-slice-aggregate-reply-to-2 : tie.Need-slice-aggregate-reply-to-2
-slice-aggregate-reply-to-2 c = search needs
+slice-aggregate-take-2 : tie.Need-slice-aggregate-take-2
+slice-aggregate-take-2 c = refl
 
-reply-to-requires : tie.Need-reply-to-requires
-reply-to-requires c κs = search needs
+slice-aggregate-take-3 : tie.Need-slice-aggregate-take-3
+slice-aggregate-take-3 c = refl
 
-slice-aggregate-write : tie.Need-slice-aggregate-write
-slice-aggregate-write c = search needs
+slice-aggregate-take-4 : tie.Need-slice-aggregate-take-4
+slice-aggregate-take-4 c = refl
 
-write-requires : tie.Need-write-requires
-write-requires c κs = search needs
+slice-aggregate-take-5 : tie.Need-slice-aggregate-take-5
+slice-aggregate-take-5 c = refl
+
+slice-aggregate-take-6 : tie.Need-slice-aggregate-take-6
+slice-aggregate-take-6 c = refl
+
+slice-aggregate-take-7 : tie.Need-slice-aggregate-take-7
+slice-aggregate-take-7 c = refl
+
+slice-aggregate-take-8 : tie.Need-slice-aggregate-take-8
+slice-aggregate-take-8 c = refl
+
+take-requires : tie.Need-take-requires
+take-requires c κs =
+    let at6 = c .before .before .before .before .before .before in
+    let at15 = at6 .before .before .before .before .before .before .before .before .before in (
+      record {
+        state-room = no-more (slice-aggregate-take-3 (c .before .before .before .before .before));
+        pivots-room = no-more (slice-aggregate-take-4 (c .before .before .before .before));
+        rows-room = no-more (slice-aggregate-take-5 (c .before .before .before));
+        values-room = no-more (slice-aggregate-take-6 (c .before .before));
+      },
+      (
+        (no-more (slice-aggregate-take-2 (at6)), at15 .pre),
+        (
+          no-more (sym (slice-aggregate-take-6 (c .before .before)) ∙ slice-aggregate-take-7 (c .before)),
+          no-more
+              (sym (slice-aggregate-take-7 (c .before)) ∙ slice-aggregate-take-8 c),
+        ),
+      ),
+    )
 
 returns-2 : tie.Need-returns-2
 returns-2 c = search needs
@@ -56,10 +90,14 @@ run-spec =
     enum-told
     fail-requires
     returns
-    array-share-prefix-bytes
-    slice-aggregate-reply-to
-    slice-aggregate-reply-to-2
-    reply-to-requires
-    slice-aggregate-write
-    write-requires
+    array-share-prefix-head
+    slice-aggregate-take
+    slice-aggregate-take-2
+    slice-aggregate-take-3
+    slice-aggregate-take-4
+    slice-aggregate-take-5
+    slice-aggregate-take-6
+    slice-aggregate-take-7
+    slice-aggregate-take-8
+    take-requires
     returns-2)

@@ -1,7 +1,11 @@
 // What is written of a delivery, and to which stream.
 ghost use Prim.Native.Nat.{_≤_};
 ghost use lib.ListN.{length};
-ghost use Rattle.reply.specs.Replies.{InStore, Replied, Said, SaidOf};
+ghost use Rattle.io.specs.Counts.{Counts};
+ghost use Rattle.delivery.specs.Received.{InRoom};
+ghost use Rattle.reply.specs.Replies.{InStore, Replied, Said, SaidOf, notesOf};
+ghost use Rattle.reply.specs.Words.{Line};
+use crate::beneath::notes;
 use crate::beneath::rows;
 use crate::beneath::rows::Typed;
 use crate::beneath::words;
@@ -13,6 +17,12 @@ use elimination::verdict::Verdict;
 pub enum Reply {
     Object(usize),
     Words(usize),
+}
+
+// The notes, so many bytes at the front of a store of their own, which come first; and the reply.
+pub struct Spoken {
+    pub notes: usize,
+    pub reply: Reply,
 }
 
 fn say_verdict(out: &mut [u8], v: Verdict, f: usize) -> Reply
@@ -27,23 +37,36 @@ fn say_verdict(out: &mut [u8], v: Verdict, f: usize) -> Reply
 }
 
 // t: the numbers of the row, for what is wrong with it.
-fn say(out: &mut [u8], what: Received, t: Typed) -> Reply
-    requires { ⌜ 200 ≤ length (now out) ⌝ }
+pub fn say(out: &mut [u8], what: Received, t: Typed) -> Reply
+    requires { ⌜ (200 ≤ length (now out)) × InRoom (length (now out)) what ⌝ }
     ensures { λ r. ⌜ Said t (now (out .entry)) (now (out .exit)) r what ⌝ }
+    ensures { λ r. ⌜ InStore r (now (out .exit)) ⌝ }
 {
     match what {
-        Received::Taken(v, f) => say_verdict(out, v, f),
+        Received::Taken(v, f, _) => say_verdict(out, v, f),
         Received::Stopped(why) => Reply::Words(words::stopped(out, why, t)),
     }
 }
 
-// The bytes of the object, or one line of words.
-pub fn reply_to(bytes: &[u8], out: &mut [u8]) -> Reply
-    requires { ⌜ 307200 ≤ length (now out) ⌝ }
-    ensures { λ r. ⌜ Replied (now (bytes .entry)) (now (out .entry)) (now (out .exit)) r ⌝ }
-    ensures { λ r. ⌜ InStore r (now (out .exit)) ⌝ }
+fn note(out: &mut [u8], what: Received) -> usize
+    requires { ⌜ 200 ≤ length (now out) ⌝ }
+    ensures { λ r. ⌜ Line (notesOf what) (now (out .entry)) (now (out .exit)) r ⌝ }
+{
+    match what {
+        Received::Taken(_, _, p) => notes::passed(out, p),
+        Received::Stopped(_) => 0,
+    }
+}
+
+// Of a delivery that is in memory as a whole: the bytes of the object, or one line of words; and the notes on it.
+pub fn reply_to(bytes: &[u8], lines: &mut [u8], out: &mut [u8]) -> Spoken
+    requires { ⌜ (200 ≤ length (now lines)) × (307200 ≤ length (now out)) ⌝ }
+    ensures { λ s. ⌜ Replied (now (bytes .entry)) (now (lines .entry)) (now (lines .exit)) (now (out .entry)) (now (out .exit)) s ⌝ }
+    ensures { λ s. ⌜ Counts (s .notes) (now (lines .exit)) × InStore (s .reply) (now (out .exit)) ⌝ }
 {
     let what = receiver::receive(bytes, out);
+    let notes = note(lines, what);
     let t = rows::typed_in(bytes);
-    say(out, what, t)
+    let reply = say(out, what, t);
+    Spoken { notes, reply }
 }

@@ -203,7 +203,7 @@ fn ruled(out: &mut [u8], at: usize, label: &[u8], x: u32, rule: &[u8]) -> usize
     text(out, next, rule)
 }
 
-fn text(out: &mut [u8], at: usize, words: &[u8]) -> usize
+pub fn text(out: &mut [u8], at: usize, words: &[u8]) -> usize
     requires { ⌜ at + length (now words) ≤ length (now out) ⌝ }
     ensures { λ r. ⌜ Lined (now (words .entry)) (length (now (words .entry))) (now (out .entry)) (now (out .exit)) at r ⌝ }
 {

@@ -3,6 +3,7 @@ ghost use Prim.Native.Nat.{_≤_};
 ghost use lib.ListN.{length};
 ghost use Rattle.reply.specs.Words.{Line, failureWords, misuseWords, openWords, refusalWords, stopWords};
 use crate::beneath::arguments::Misuse;
+use crate::beneath::notes;
 use crate::beneath::rows;
 use crate::beneath::rows::Typed;
 use delivery::beneath::screen::Stop;
@@ -56,10 +57,7 @@ fn refused(out: &mut [u8], why: Refusal, t: Typed) -> usize
             out,
             b"refused 9: the count of source symbols is not from 1 to K'\n",
         ),
-        Refusal::BadSize => write_line(
-            out,
-            b"refused 10: the symbol size is 0, or the last packet is not whole\n",
-        ),
+        Refusal::BadSize => write_line(out, b"refused 10: the symbol size is 0\n"),
         Refusal::NotBegun => write_line(out, b"refused 14: nothing was begun\n"),
     }
 }
@@ -72,15 +70,11 @@ pub fn stopped(out: &mut [u8], why: Stop, t: Typed) -> usize
         Stop::Refused(w) => refused(out, w, t),
         Stop::TooLarge => write_line(
             out,
-            b"too large for this program: T is at most 1,024, L at most 300, the equations at most 360\n",
+            b"too large for this program: T is at most 1,024, L at most 300\n",
         ),
         Stop::SeveralBlocks => write_line(
             out,
             b"several blocks: this program takes one source block of one sub-block\n",
-        ),
-        Stop::OtherBlock => write_line(
-            out,
-            b"another block: a packet has a block number other than 0\n",
         ),
     }
 }
@@ -90,12 +84,7 @@ pub fn open(out: &mut [u8], x: u32) -> usize
     requires { ⌜ 200 ≤ length (now out) ⌝ }
     ensures { λ r. ⌜ Line (openWords x) (now (out .entry)) (now (out .exit)) r ⌝ }
 {
-    let mut digits = [0u8; 20];
-    let k = io::decimal(x as u64, &mut digits);
-    big_endian::copy(out, 0, b"open, ");
-    big_endian::copy(out, 6, &digits[..k]);
-    big_endian::copy(out, 6 + k, b" more independent packets at least\n");
-    6 + k + 35
+    notes::shortfall(out, 0, x)
 }
 
 pub fn misused(out: &mut [u8], why: Misuse) -> usize

@@ -1,71 +1,56 @@
 -- `delivery::beneath::receiver::attempt` meets its contract.
 -- Assumes nothing.
-use mathlib.Core.Path.{_≡_, sym, ap}
-use mathlib.Core.List.{List}
-use Prim.Native.Nat.{ℕ, _*_, _≤_}
+use mathlib.Core.Path.{refl, _∙_, subst}
 use native.Mathlib.Omega.{arith}
-use lib.ListN.{length}
-use lib.Seq.{length-take-le}
-use Rattle.headers.specs.Row.{lOf}
-use Rattle.delivery.proofs.Settling.{set-fits, block-fits, never-refused, decoded}
+use Rattle.delivery.specs.Hearing.{OpenedSmall, Opens}
+use Rattle.delivery.specs.declared.beneath.receiver.Opened.{Opened}
+use Rattle.delivery.proofs.Screening.{sound}
+use Rattle.delivery.proofs.Settling.{came}
 use borrow.Author.Needs.{needs}
 use Rattle.delivery.proofs.beneath.receiver.attempt.Statement.{statement}
 use Rattle.delivery.proofs.beneath.receiver.attempt.Tie as tie
 
-solve-requires : tie.Need-solve-requires
-solve-requires c κs = search needs
+open-requires : tie.Need-open-requires
+open-requires c κs = search needs
 
-cast-l : tie.Need-cast-l
-cast-l c = search needs
+enum-known-opened : tie.Need-enum-known-opened
+enum-known-opened c = search needs
 
--- from the solver's answer back to the entry; L times T octets, of the record's own L, and the store of the set that has them
-abbrev entry : tie.After-solve → tie.Start
-entry c = c .before .before .before .before .before .before .before .before .before .before .before
+hear-all-requires : tie.Need-hear-all-requires
+hear-all-requires c κs =
+    let at9 = c .before .before .before .before .before .before .before .before .before in
+    let at21 = at9 .before .before .before .before .before .before .before .before .before .before .before .before in
+    let o = at9 .«open» in
+    let s = at21 in
+    let d = s .args .bytes .now in
+    let u = subst (λ (x : Opened). Opens d (s .args .state .now) (s .args .pivots .now) (s .args .rows .now) (s .args .values .now) (o .last .1 .0) x)
+    (c .before .before .before .before .before .opened .given .1) (o .ensures .0) in
+    let v = subst OpenedSmall (c .before .before .before .before .before .opened .given .1) (o .ensures .1) in
+    ((sound d (u .0) .whole, u .1, omega (arith, v .0)), u .3)
 
-abbrev octets : tie.After-solve → ℕ
-octets c = entry c .args .r .l * entry c .args .t
+conclude-requires : tie.Need-conclude-requires
+conclude-requires c κs =
+    let at12 = c .before .before .before .before .before .before .before .before .before .before .before .before in
+    let at14 = at12 .before .before in
+    let at20 = at14 .before .before .before .before .before .before in
+    let at24 = at20 .before .before .before .before in
+    let at36 = at24 .before .before .before .before .before .before .before .before .before .before .before .before in
+    let o = at24 .«open» in
+    let s = at36 in
+    let v = subst OpenedSmall (at20 .opened .given .1) (o .ensures .1) in
+    let k = at14 .hear-all .kept .1 .1 .1 .1 .1 .0 in
+    (omega (arith, k, s .pre .1 .0), s .pre .1 .1, omega (arith, v .1, s .pre .0 .values-room, s .pre .1 .0, s .pre .1 .1))
 
-abbrev set : tie.After-solve → List ℕ
-set c = c .solve .last .1 .1 .1 .1 .1 .1 .1 .1 .0
-
-octets-is : (c : tie.After-solve) → octets c ≡ lOf (entry c .args .r) * entry c .args .t
-octets-is c = ap (λ (x : ℕ). x * entry c .args .t) (entry c .pre .0 .rules .derived .l-fits)
-
-in-set : (c : tie.After-solve) → octets c ≤ length (set c)
-in-set c = let s = entry c in omega (arith, octets-is c, set-fits (s .pre .0), c .solve .kept .1 .1 .1 .1 .1 .1 .1 .1 .0, s .pre .1 .set-room)
-
-mul-l : tie.Need-mul-l
-mul-l c = let v = c .before .before .before .before .before .before .before in omega (arith, octets-is v, set-fits (entry v .pre .0))
-
-enum-known-answer : tie.Need-enum-known-answer
-enum-known-answer c = search needs
-
-slice-reshare-prefix-leave : tie.Need-slice-reshare-prefix-leave
-slice-reshare-prefix-leave c = in-set (c .before .before .before .before .before .before .before .before .before .before)
-
-slice-aggregate-leave : tie.Need-slice-aggregate-leave
-slice-aggregate-leave c =
-    let v = c .before .before .before .before .before .before .before .before .before .before .before in
-    sym (length-take-le (octets v) (set v) (in-set v))
-
-leave-requires : tie.Need-leave-requires
-leave-requires c κs =
-    let v = c .before .before .before .before .before .before .before .before .before .before .before .before in
-    let h = entry v .pre .0 in
-    record {
-      rules = h .rules;
-      tables = h .tables;
-      k-high = h .k-high;
-      t-low = h .t-low;
-      symbols = omega (arith, octets-is v, length-take-le (octets v) (set v) (in-set v));
-      room = omega (arith, block-fits h, entry v .pre .1 .out-room);
-    }
-
-enum-known-answer-2 : tie.Need-enum-known-answer-2
-enum-known-answer-2 c = search needs
+enum-known-opened-2 : tie.Need-enum-known-opened-2
+enum-known-opened-2 c = search needs
 
 same-length : tie.Need-same-length
-same-length c = search needs
+same-length c =
+    let at12 = c .before .before .before .before .before .before .before .before .before .before .before .before in
+    let at24 = at12 .before .before .before .before .before .before .before .before .before .before .before .before in
+    let at27 = at24 .before .before .before in
+    let at37 = at27 .before .before .before .before .before .before .before .before .before .before in
+    at12 .conclude .kept .1 .1 .0 ∙ at27 .hear-all .kept .1 .1 .0 ∙ at37 .«open» .kept .1 .0
 
 same-length-2 : tie.Need-same-length-2
 same-length-2 c = search needs
@@ -76,54 +61,70 @@ same-length-3 c = search needs
 same-length-4 : tie.Need-same-length-4
 same-length-4 c = search needs
 
-returns : tie.Need-returns
-returns c =
-    let v = c .before .before .before .before .before .before .before .before .before .before .before .before .before .before .before in
-    let a = entry v .args in
-    let z = v .solve .last .1 .1 .1 .1 .1 .1 in
-    let told = c .before .before .before .before .before .before .answer .given in
-    let left = c .before .before .leave in
-    decoded (a .r) (a .tables .now) (a .k) (a .t) (a .f) (a .esis .now) (a .symbols .now) (a .rows .now) (a .values .now) (a .set .now)
-    (z .0) (z .1 .0) (set v) (a .out .now) (left .last .1 .1 .1 .1 .1 .1 .0) (v .solve .result) (told .0 .0) (octets v) (octets-is v) (v .solve .ensures)
-    (told .1) (left .ensures)
-
 same-length-5 : tie.Need-same-length-5
 same-length-5 c = search needs
 
 same-length-6 : tie.Need-same-length-6
 same-length-6 c = search needs
 
+returns : tie.Need-returns
+returns c =
+    let at12 = c .before .before .before .before .before .before .before .before .before .before .before .before in
+    let at24 = at12 .before .before .before .before .before .before .before .before .before .before .before .before in
+    let at27 = at24 .before .before .before in
+    let at33 = at27 .before .before .before .before .before .before in
+    let at37 = at33 .before .before .before .before in
+    let at49 = at37 .before .before .before .before .before .before .before .before .before .before .before .before in
+    let o = at37 .«open» in
+    let s = at49 in
+    let d = s .args .bytes .now in
+    let u = subst (λ (x : Opened). Opens d (s .args .state .now) (s .args .pivots .now) (s .args .rows .now) (s .args .values .now) (o .last .1 .0) x)
+    (at33 .opened .given .1) (o .ensures .0) in
+    let h = at27 .hear-all in
+    let e = at12 .conclude in
+    (came d (s .args .out .now) _ (e .result) _ _ _ _ (u .0) (u .2) (h .ensures .0) (h .ensures .1) (e .ensures .0), e .ensures .1)
+
 same-length-7 : tie.Need-same-length-7
 same-length-7 c = search needs
 
+same-length-8 : tie.Need-same-length-8
+same-length-8 c = search needs
+
+same-length-9 : tie.Need-same-length-9
+same-length-9 c = search needs
+
+same-length-10 : tie.Need-same-length-10
+same-length-10 c = search needs
+
 returns-2 : tie.Need-returns-2
 returns-2 c =
-    let v = c .before .before .before .before .before .before .before .before .before .before in
-    let s = entry v in
-    let a = s .args in
-    let z = v .solve .last .1 .1 .1 .1 .1 .1 in
-    let told = c .before .answer2 .given in
-    never-refused (s .pre .0) (a .rows .now) (a .values .now) (a .set .now) (z .0) (z .1 .0) (set v) (v .solve .result) (told .0 .0) (s .pre .1)
-    (v .solve .ensures) (told .1)
+    let at12 = c .before .before .before .before .before .before .before .before .before .before .before .before in
+    let at17 = at12 .before .before .before .before .before in
+    let o = c .before .before .before .before .before .«open» in
+    let s = at17 in
+    let d = s .args .bytes .now in
+    let u = subst (λ (x : Opened). Opens d (s .args .state .now) (s .args .pivots .now) (s .args .rows .now) (s .args .values .now) (o .last .1 .0) x)
+    (c .before .opened2 .given .1) (o .ensures .0) in
+    ((u .0, refl), tt)
 
 pub attempt-spec : {M : Type 1} → statement M
 attempt-spec =
     tie.close
     (tie.spec
-    solve-requires
-    cast-l
-    mul-l
-    enum-known-answer
-    slice-reshare-prefix-leave
-    slice-aggregate-leave
-    leave-requires
-    enum-known-answer-2
+    open-requires
+    enum-known-opened
+    hear-all-requires
+    conclude-requires
+    enum-known-opened-2
     same-length
     same-length-2
     same-length-3
     same-length-4
-    returns
     same-length-5
     same-length-6
+    returns
     same-length-7
+    same-length-8
+    same-length-9
+    same-length-10
     returns-2)

@@ -1,42 +1,57 @@
 -- `delivery::beneath::receiver::receive` meets its contract.
 -- Assumes nothing.
-use mathlib.Core.Path.{refl, sym, ap, _∙_}
-use Rattle.delivery.specs.Screen.{screened}
-use Rattle.delivery.proofs.Screening.{all-passed}
-use Rattle.delivery.proofs.Settling.{came}
+use mathlib.Core.Path.{refl, sym, _∙_}
+use Rattle.delivery.proofs.Lists.{no-more, within}
 use borrow.Author.Needs.{needs}
 use Rattle.delivery.proofs.beneath.receiver.receive.Statement.{statement}
 use Rattle.delivery.proofs.beneath.receiver.receive.Tie as tie
 
-screen-requires : tie.Need-screen-requires
-screen-requires c κs = search needs
+slice-aggregate-attempt : tie.Need-slice-aggregate-attempt
+slice-aggregate-attempt c = refl
 
-enum-told : tie.Need-enum-told
-enum-told c = search needs
+slice-aggregate-attempt-2 : tie.Need-slice-aggregate-attempt-2
+slice-aggregate-attempt-2 c = refl
 
-hear-requires : tie.Need-hear-requires
-hear-requires c κs = (all-passed (c .before .before .before .screen .result) (c .before .before .before .screen .ensures) (c .before .enum-told .given .1), c .before .before .before .before .before .before .pre)
+slice-aggregate-attempt-3 : tie.Need-slice-aggregate-attempt-3
+slice-aggregate-attempt-3 c = refl
 
-enum-known-fine : tie.Need-enum-known-fine
-enum-known-fine c = search needs
+slice-aggregate-attempt-4 : tie.Need-slice-aggregate-attempt-4
+slice-aggregate-attempt-4 c = refl
+
+slice-aggregate-attempt-5 : tie.Need-slice-aggregate-attempt-5
+slice-aggregate-attempt-5 c = refl
+
+attempt-requires : tie.Need-attempt-requires
+attempt-requires c κs =
+    let at8 = c .before .before .before .before .before .before .before .before in (
+      record {
+        state-room = no-more (slice-aggregate-attempt (c .before .before .before .before .before));
+        pivots-room = no-more (slice-aggregate-attempt-2 (c .before .before .before .before));
+        rows-room = no-more (slice-aggregate-attempt-3 (c .before .before .before));
+        values-room = no-more (slice-aggregate-attempt-4 (c .before .before));
+      },
+      (
+        no-more (sym (slice-aggregate-attempt-4 (c .before .before)) ∙ slice-aggregate-attempt-5 (c .before)),
+        within (slice-aggregate-attempt-5 (c .before))
+            (at8 .pre),
+      ),
+    )
 
 same-length : tie.Need-same-length
 same-length c = search needs
 
 returns : tie.Need-returns
-returns c = came (c .before .before .before .before .before .before .before .before .before .args .bytes .now) (c .before .before .before .before .before .before .before .before .before .args .out .now) _ (c .before .before .hear .result) (all-passed (c .before .before .before .before .before .before .screen .result) (c .before .before .before .before .before .before .screen .ensures) (c .before .before .before .before .enum-told .given .1)) (c .before .before .hear .ensures)
-
-returns-2 : tie.Need-returns-2
-returns-2 c = (sym (c .before .before .before .screen .ensures) ∙ ap screened (c .before .fine .given .1), refl)
+returns c = search needs
 
 pub receive-spec : {M : Type 1} → statement M
 receive-spec =
     tie.close
     (tie.spec
-    screen-requires
-    enum-told
-    hear-requires
-    enum-known-fine
+    slice-aggregate-attempt
+    slice-aggregate-attempt-2
+    slice-aggregate-attempt-3
+    slice-aggregate-attempt-4
+    slice-aggregate-attempt-5
+    attempt-requires
     same-length
-    returns
-    returns-2)
+    returns)

@@ -3,12 +3,11 @@
 use mathlib.Core.Path.{_≡_}
 use mathlib.Core.List.{List}
 use Prim.Native.Nat.{ℕ}
-use native.Mathlib.Omega.{arith}
 use Rattle.headers.specs.Row.{Obeys}
 use Rattle.headers.specs.declared.row.Row.{Row}
 use Rattle.field.specs.Answer.{codeOf}
 use Rattle.delivery.specs.Layout.{rowIn}
-use Rattle.delivery.proofs.Screening.{RowSound, all-passed, row-broken, row-read, row-refused, row-sound, row-stopped, row-passed}
+use Rattle.delivery.proofs.Screening.{row-broken, row-read, row-refused, row-stopped, tables-cut, tables-whole}
 use borrow.Author.Needs.{needs}
 use Rattle.delivery.proofs.beneath.screen.screen_rest.Statement.{statement}
 use Rattle.delivery.proofs.beneath.screen.screen_rest.Tie as tie
@@ -45,34 +44,27 @@ returns c =
     let s = c .before .before .screen-row in
     row-stopped (bytes r) (made r) (own r .1) (a .k) (a .t) (s .result) (s .ensures) _ (c .enum-told2 .given .1)
 
--- past the screen of the row
-passed : (c : tie.After-enum-told) → let r = c .before .before .before in
+returns-2 : tie.Need-returns-2
+returns-2 c =
+    let p = c .before in
+    let r = p .before .before .before in
     let a = r .before .before .before .before .before .args in
-    RowSound (made r) (a .k) (a .t)
-passed c =
-    let r = c .before .before .before in
-    let a = r .before .before .before .before .before .args in
-    let s = c .before .before .screen-row in
-    row-sound (made r) (a .k) (a .t) (all-passed (s .result) (s .ensures) (c .enum-told .given .1))
-
-cast-screen-packets : tie.Need-cast-screen-packets
-cast-screen-packets c = let l = passed c in omega (arith, l .k-high, l .rules .ranges .kp-16)
-
-screen-packets-requires : tie.Need-screen-packets-requires
-screen-packets-requires c κs = let l = passed c in (l .rules, l .k-low, l .k-high, l .l-high, omega (arith, l .t-high))
+    let s = p .before .before .screen-row in
+    tables-cut (bytes r) (made r) (own r .1) (a .k) (a .t) (s .result) (s .ensures) (p .enum-told .given .1) (c .if1 .taken)
 
 enum-known-why : tie.Need-enum-known-why
 enum-known-why c = search needs
 
-returns-2 : tie.Need-returns-2
-returns-2 c =
-    let r = c .before .before .before .before in
-    let a = r .before .before .before .before .before .args in
-    let s = c .before .before .before .screen-row in
-    row-passed (bytes r) (made r) (own r .1) (a .k) (a .t) (s .result) (s .ensures) (c .before .enum-told .given .1) (c .screen-packets .ensures)
-
 returns-3 : tie.Need-returns-3
 returns-3 c =
+    let p = c .before in
+    let r = p .before .before .before in
+    let a = r .before .before .before .before .before .args in
+    let s = p .before .before .screen-row in
+    tables-whole (bytes r) (made r) (own r .1) (a .k) (a .t) (s .result) (s .ensures) (p .enum-told .given .1) (c .if1 .left)
+
+returns-4 : tie.Need-returns-4
+returns-4 c =
     let a = c .before .before .before .before .before .args in
     let read = c .before .before .before in
     let why = c .before .why .given .0 .0 in
@@ -88,8 +80,7 @@ screen-rest-spec =
     enum-told
     enum-told-2
     returns
-    cast-screen-packets
-    screen-packets-requires
-    enum-known-why
     returns-2
-    returns-3)
+    enum-known-why
+    returns-3
+    returns-4)

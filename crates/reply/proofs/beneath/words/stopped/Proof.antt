@@ -31,15 +31,6 @@ slice-aggregate-write-line-2 c = search needs
 write-line-requires-2 : tie.Need-write-line-requires-2
 write-line-requires-2 c κs = search needs
 
-enum-told-3 : tie.Need-enum-told-3
-enum-told-3 c = search needs
-
-slice-aggregate-write-line-3 : tie.Need-slice-aggregate-write-line-3
-slice-aggregate-write-line-3 c = search needs
-
-write-line-requires-3 : tie.Need-write-line-requires-3
-write-line-requires-3 c κs = search needs
-
 same-length : tie.Need-same-length
 same-length c = search needs
 
@@ -64,14 +55,6 @@ returns-3 c =
     let e = c .before .before .before .before .before in
     line-as (c .before .before .write-line2 .ensures) (ap (stopWords (e .before .before .before .args .t)) (sym (e .enum-told2 .given .1)))
 
-same-length-4 : tie.Need-same-length-4
-same-length-4 c = search needs
-
-returns-4 : tie.Need-returns-4
-returns-4 c =
-    let e = c .before .before .before .before .before in
-    line-as (c .before .before .write-line3 .ensures) (ap (stopWords (e .before .before .before .args .t)) (sym (e .enum-told3 .given .1)))
-
 pub stopped-spec : {M : Type 1} → statement M
 stopped-spec =
     tie.close
@@ -84,14 +67,9 @@ stopped-spec =
     enum-told-2
     slice-aggregate-write-line-2
     write-line-requires-2
-    enum-told-3
-    slice-aggregate-write-line-3
-    write-line-requires-3
     same-length
     returns
     same-length-2
     returns-2
     same-length-3
-    returns-3
-    same-length-4
-    returns-4)
+    returns-3)
