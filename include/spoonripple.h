@@ -26,11 +26,12 @@
  *   holds for every store and list.
  *
  * Stack
- *   spoonripple_solve, spoonripple_intake_packet and spoonripple_intake_question take at most 16 KiB of stack where L and t are at most
- *   2,048, and at most 300 KiB else; every other call takes less than 2 KiB. That holds whatever is lent and whatever is answered:
- *   frames have a fixed size, no call calls itself, and none allocates. libc's memcpy and memset come on top, a few KiB where the loader
- *   binds them late: a thread with 32 KiB is enough for such blocks, and one with 320 KiB for all; 128 KiB (the default of musl) is not.
- *   bindings/c/stack reads the number of each call from the archive, and bindings/c/frames.c measures that of the three.
+ *   spoonripple_solve and spoonripple_intake_packet take at most 16 KiB of stack where L and t are at most 2,048, and at most 300 KiB
+ *   else; spoonripple_intake_question takes at most 160 KiB, on every input; every other call takes less than 2 KiB. That holds
+ *   whatever is lent and whatever is answered: frames have a fixed size, no call calls itself, and none allocates. libc's memcpy and
+ *   memset come on top, a few KiB where the loader binds them late: a thread with 32 KiB is enough for such blocks but for a question,
+ *   which wants 176 KiB, and one with 320 KiB for all; 128 KiB (the default of musl) is not. bindings/c/stack reads the number of each
+ *   call from the archive, and bindings/c/frames.c measures that of the three.
  *
  * The record of a row
  *   A parameter row is K', J, S, H, W (5.6 of the RFC, Table 2). Its record is nine numbers: these five and the four that follow
@@ -448,7 +449,7 @@ uint32_t spoonripple_intake_packet(uint32_t esi, const uint8_t *symbol, size_t s
  * Refusals: 14 (not begun), 8 (rows below L * L octets, values below L * t octets, out below L * t octets), 8 (shortfall has no place).
  * Writes words 11 and 12 of state, the first L places of pivots, the first L * L octets of rows and L * t of values; the first L * t
  * octets of out only with SPOONRIPPLE_DONE, shortfall[0] only with SPOONRIPPLE_OPEN.
- * Stack: at most 16 KiB where L and t are at most 2,048 and where it refuses, at most 300 KiB else. */
+ * Stack: at most 160 KiB. */
 uint32_t spoonripple_intake_question(uint32_t *state, size_t state_len, uint16_t *pivots, size_t pivots_len,
                                      uint8_t *rows, size_t rows_len, uint8_t *values, size_t values_len,
                                      uint8_t *out, size_t out_len, uint64_t *shortfall, size_t shortfall_len);

@@ -8,7 +8,7 @@
 #include <stdlib.h>
 #include <string.h>
 
-enum { STACK = 1 << 20, FILL = 0xa5, SMALL = 16 * 1024, LARGE = 300 * 1024 };
+enum { STACK = 1 << 20, FILL = 0xa5, SMALL = 16 * 1024, LARGE = 300 * 1024, ASKED = 160 * 1024 };
 
 static const uint32_t tables[1024] = {
 #include "../data/random_tables.txt"
@@ -102,11 +102,12 @@ static void take(struct run *r, uint8_t *stack, int kind, uint32_t due, int coun
     const struct block *b = r->block;
     r->kind = kind;
     size_t taken = on_a_thread(r, stack);
+    uint32_t bound = kind == QUESTION ? ASKED : b->most; /* the frame of a question is one on every input */
     if (counts && taken > most[kind][b->most == LARGE]) most[kind][b->most == LARGE] = taken;
-    if (r->code == due && (!counts || taken <= b->most)) return;
+    if (r->code == due && (!counts || taken <= bound)) return;
     faults++;
     fprintf(stderr, "%s, L = %zu, T = %u: answer %u, due %u; %zu bytes of stack, at most %u\n", names[kind], r->l, (unsigned)b->t, (unsigned)r->code,
-            (unsigned)due, taken, (unsigned)b->most);
+            (unsigned)due, taken, (unsigned)bound);
 }
 
 /* All that came, in one call, and then one by one: begun three times, so that each call has been made before it counts, and so that the
@@ -149,6 +150,6 @@ int main(void) {
     free(stack);
     for (int kind = 0; kind < KINDS; kind++)
         printf("stack of %s, measured: %zu bytes where L and T are at most 2,048 (at most %d), else %zu (at most %d)\n", names[kind], most[kind][0],
-               SMALL, most[kind][1], LARGE);
+               kind == QUESTION ? ASKED : SMALL, most[kind][1], kind == QUESTION ? ASKED : LARGE);
     return faults != 0;
 }
