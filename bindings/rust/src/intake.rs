@@ -108,8 +108,8 @@ pub fn question(stores: Stores, out: &mut [u8]) -> Result<Verdict, Refusal> {
 ///
 /// 4,148 + 2 · L + L · L + 2 · L · T octets ([`Room::octets`]), taken when it is begun and fixed by K and T alone, L being that of the row: 4,148 of state,
 /// 2 · L of pivots, L · L of rows, L · T of symbols, and L · T for the solved ones. A packet whose row depends on those that are held takes no place: its
-/// symbol is compared, and that is all. So a night of any length is taken in the same memory, and no packet is refused for room. In the published rows of
-/// Table 2, with symbols of 1,024 octets:
+/// symbol is compared, and that is all. So a night of any length is taken in the same memory, and no packet is refused for room. Begun anew for another block
+/// it keeps, of each part, the most that one of its blocks asked. In the published rows of Table 2, with symbols of 1,024 octets:
 ///
 /// | K | L | octets |
 /// |---|---|---|
