@@ -1,12 +1,10 @@
 -- Screens: one after the other, and what is known of a delivery that passes them.
 -- Assumes nothing.
 use mathlib.Core.Path.{_≡_, sym, ap, _∙_, subst}
-use mathlib.Core.Bool.{not}
 use mathlib.Core.List.{List}
 use Prim.Native.Nat.{ℕ, _≤_, _<_}
-use native.Mathlib.Omega.{arith}
-use borrow.Author.Tests.{lt-ltb, le-ltb, ltb-false, eqb-false}
-use lib.Dec.{eqb, ltb}
+use borrow.Author.Tests.{lt-ltb, le-ltb, ltb-false}
+use lib.Dec.{ltb}
 use lib.ListN.{length}
 use Rattle.field.specs.Answer.{Outcome, given, refused, before, codeOf}
 use Rattle.field.specs.declared.refusal.Refusal.{Refusal}
@@ -20,6 +18,7 @@ use Rattle.headers.specs.declared.row.Checked.the-variants as Checkeds
 use Rattle.headers.specs.declared.transmission.ObjectTransmissionInformation.{ObjectTransmissionInformation}
 use Rattle.headers.proofs.Rules.{passed-row}
 use Rattle.headers.proofs.Accepted.{accepted, rejected}
+use Rattle.headers.proofs.Information.{info-obeying}
 use Rattle.delivery.specs.Layout.{infoOf, rowIn, tOf, kOf}
 use Rattle.delivery.specs.Screen.{screened, shapeScreen, infoScreen, rowScreen, tablesScreen, restScreen, screen}
 use Rattle.delivery.specs.declared.beneath.screen.Stop.{Stop}
@@ -40,13 +39,7 @@ module _ {p : Outcome (Unit {0})} (x : Screened) (q : screened x ≡ p) where
 -- ---- what a screen that refuses nothing tells
 
 pub size-low : (o : ObjectTransmissionInformation) → infoScreen o ≡ given tt → 0 < o .«symbol_size»
-size-low o e =
-    let s = passed-before (infoChecked o) (shapeScreen o) tt e in
-    let p1 = passed (not (eqb (o .«num_source_blocks») 1)) 102 _ tt (s .2) in
-    let p2 = passed (not (eqb (o .«num_sub_blocks») 1)) 102 _ tt (p1 .1) in
-    let p3 = passed (eqb (o .«symbol_size») 0) 10 _ tt (p2 .1) in
-    let n : o .«symbol_size» ≡ 0 → ⊥ = eqb-false (o .«symbol_size») 0 (p3 .0) in
-    omega arith
+size-low o e = info-obeying o (passed-before (infoChecked o) (shapeScreen o) tt e .1) .t-low
 
 pub record RowSound (r : Row) (k t : ℕ) : Type 0 where
   pub rules : Obeys r

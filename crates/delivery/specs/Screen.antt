@@ -26,12 +26,12 @@ abbrev pub screened : Screened → Outcome (Unit {0})
 screened Screeneds.Passed = given tt
 screened (Screeneds.Stopped why) = refused (stopOf why)
 
--- one block, of one sub-block; a symbol size
+-- one block, of one sub-block
 abbrev pub shapeScreen : ObjectTransmissionInformation → Outcome (Unit {0})
 shapeScreen o =
-    unless (not (eqb (o .«num_source_blocks») 1)) 102 (unless (not (eqb (o .«num_sub_blocks») 1)) 102 (unless (eqb (o .«symbol_size») 0) 10 (given tt)))
+    unless (not (eqb (o .«num_source_blocks») 1)) 102 (unless (not (eqb (o .«num_sub_blocks») 1)) 102 (given tt))
 
--- the rules of document 01, and these
+-- the rules of transmission information, and these
 abbrev pub infoScreen : ObjectTransmissionInformation → Outcome (Unit {0})
 infoScreen o = before (infoChecked o) (shapeScreen o)
 

@@ -5,6 +5,7 @@ pub mod Bytes
 pub mod Headers
 pub mod RoundTrip
 pub mod Parting
+pub mod Information
 pub mod Primes
 pub mod Rising
 pub mod Rules

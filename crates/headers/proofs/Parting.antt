@@ -48,10 +48,11 @@ module _ (i j : ℕ) (h : 0 < j) where
             near = omega arith;
           })
 
--- so of whatever the contract lets `partition` give
+-- so of whatever the contract lets `partition` give: it is this one
+pub only-parts : (i j : ℕ) (xs : List ℕ) → partitioned i j ≡ given xs → parts i j ≡ xs
+only-parts i j xs e = given-only (parts i j) xs (passed (eqb j 0) 2 (given (parts i j)) xs e .1)
+
 pub partition-parts : (i j il is jl js : ℕ) → partitioned i j ≡ given (il ∷ is ∷ jl ∷ js ∷ []) → Partitions i j il is jl js
 partition-parts i j il is jl js e =
-    let g = passed (eqb j 0) 2 (given (parts i j)) (il ∷ is ∷ jl ∷ js ∷ []) e in
-    let p : parts i j ≡ il ∷ is ∷ jl ∷ js ∷ [] = given-only (parts i j) (il ∷ is ∷ jl ∷ js ∷ []) (g .1) in
-    let d : j ≡ 0 → ⊥ = eqb-false j 0 (g .0) in
-    subst (λ (x : List ℕ). Partitions i j (getD x 0 0) (getD x 1 0) (getD x 2 0) (getD x 3 0)) p (partitions i j (omega (arith, d)))
+    let d : j ≡ 0 → ⊥ = eqb-false j 0 (passed (eqb j 0) 2 (given (parts i j)) (il ∷ is ∷ jl ∷ js ∷ []) e .0) in
+    subst (λ (x : List ℕ). Partitions i j (getD x 0 0) (getD x 1 0) (getD x 2 0) (getD x 3 0)) (only-parts i j _ e) (partitions i j (omega (arith, d)))

@@ -1,10 +1,10 @@
--- Payload ids, transmission information and packets: RFC 6330, 3.2, 3.3.2, 3.3.3 and 4.4.2; document 01, 'Headers'.
+-- Payload ids, transmission information and packets: RFC 6330, 3.2, 3.3.2, 3.3.3 and 4.4.2; document 01, 'Headers'; document 02, E3.
 -- Assumes nothing.
 use mathlib.Core.Path.{_≡_}
 use mathlib.Core.Bool.{Bool, not}
 use mathlib.Core.List.{List, _++_}
-use Prim.Native.Nat.{ℕ, _+_, _-_, _%_}
-use lib.Dec.{eqb, ltb}
+use Prim.Native.Nat.{ℕ, _+_, _-_, _/_, _%_, _≤_}
+use lib.Dec.{eqb, leb, ltb}
 use lib.ListN.{length}
 use Rattle.field.specs.Answer.{Outcome, Left, done, given, refused, codeOf, unless}
 use Rattle.field.specs.Choice.{both}
@@ -80,17 +80,36 @@ roomForInfo o = room (o .«transfer_length») 1099511627775 2 12
 abbrev pub InfoStored : ObjectTransmissionInformation → List ℕ → List ℕ → Plain.Answer → Type 0
 InfoStored o xs ys = Stores (roomForInfo o (length xs)) (infoBytes o) xs ys
 
--- too many symbols in a block: T and Z are not 0, and ceil(ceil(F/T)/Z) exceeds the largest K'
+-- too many symbols in a block: ceil(ceil(F/T)/Z) exceeds the largest K'
 abbrev pub crowded : ℕ → ℕ → ℕ → Bool
-crowded f t z = both (not (eqb t 0)) (both (not (eqb z 0)) (ltb 56403 (ceil (ceil f t) z)))
+crowded f t z = ltb 56403 (ceil (ceil f t) z)
 
--- the rules of document 01, 'Headers'
+-- the rules of document 01, 'Headers', as document 02, E3, amends them: T, Z and N are not 0, and N is at most T/Al
+abbrev pub infoObeys : ObjectTransmissionInformation → Bool
+infoObeys o =
+    both (leb (o .«transfer_length») 942574504275)
+    (both (leb 1 (o .«symbol_alignment»))
+    (both (eqb (o .«symbol_size» % o .«symbol_alignment») 0)
+    (both (leb 1 (o .«symbol_size»))
+    (both (leb 1 (o .«num_source_blocks»))
+    (both (leb 1 (o .«num_sub_blocks»))
+    (both (leb (o .«num_sub_blocks») (o .«symbol_size» / o .«symbol_alignment»))
+    (not (crowded (o .«transfer_length») (o .«symbol_size») (o .«num_source_blocks»)))))))))
+
+-- 3 where one of them breaks
 abbrev pub infoChecked : ObjectTransmissionInformation → Outcome (Unit {0})
-infoChecked o =
-    unless (ltb 942574504275 (o .«transfer_length»)) 3
-    (unless (eqb (o .«symbol_alignment») 0) 3
-    (unless (not (eqb (o .«symbol_size» % o .«symbol_alignment») 0)) 3
-    (unless (crowded (o .«transfer_length») (o .«symbol_size») (o .«num_source_blocks»)) 3 (given tt))))
+infoChecked o = unless (not (infoObeys o)) 3 (given tt)
+
+-- the same rules as facts, which the tests decide (`info-tells`)
+pub record InfoObeys (o : ObjectTransmissionInformation) : Type 0 where
+  pub f-high : o .«transfer_length» ≤ 942574504275
+  pub al-low : 1 ≤ o .«symbol_alignment»
+  pub aligned : o .«symbol_size» % o .«symbol_alignment» ≡ 0
+  pub t-low : 1 ≤ o .«symbol_size»
+  pub z-low : 1 ≤ o .«num_source_blocks»
+  pub n-low : 1 ≤ o .«num_sub_blocks»
+  pub n-high : o .«num_sub_blocks» ≤ o .«symbol_size» / o .«symbol_alignment»
+  pub k-high : ceil (ceil (o .«transfer_length») (o .«symbol_size»)) (o .«num_source_blocks») ≤ 56403
 
 -- the id at the front of a packet, and the place of what follows it
 abbrev pub headed : List ℕ → Outcome (PayloadId × ℕ)

@@ -5,7 +5,7 @@ ghost use Prim.Native.Nat.{_≤_};
 ghost use lib.ListN.{length};
 ghost use Rattle.field.specs.Answer.{done};
 ghost use Rattle.headers.specs.Bytes.{Laid};
-ghost use Rattle.headers.specs.Headers.{InfoStored, infoChecked, crowded, infoBytes, infoOutcome, readInfo};
+ghost use Rattle.headers.specs.Headers.{InfoStored, infoChecked, infoBytes, infoOutcome, readInfo};
 use crate::beneath;
 use crate::beneath::big_endian;
 use crate::beneath::util;
@@ -60,20 +60,7 @@ fn put(store: &mut [u8], info: ObjectTransmissionInformation)
     big_endian::put(store, 11, 1, info.symbol_alignment as u64);
 }
 
-// Too many symbols in a block: ceil(ceil(F/T)/Z) exceeds the largest K' (RFC 6330, 4.4.1.2).
-fn is_crowded(f: u64, t: u16, z: u8) -> bool
-    ensures { λ r. ⌜ r ≡ crowded f t z ⌝ }
-{
-    if t == 0 {
-        return false;
-    }
-    if z == 0 {
-        return false;
-    }
-    util::int_div_ceil(util::int_div_ceil(f, t as u64), z as u64) > 56403
-}
-
-// As the crate's `new`, T = 0 and Z = 0 pass.
+// The crate's `new` lacks the four rules of document 02, E3: it takes T, Z or N of 0, and N above T/Al (docs/DIFFERENCES.md, D36 to D39).
 pub fn check(info: ObjectTransmissionInformation) -> refusal::Answer
     ensures { λ r. ⌜ done r ≡ infoChecked info ⌝ }
 {
@@ -86,11 +73,21 @@ pub fn check(info: ObjectTransmissionInformation) -> refusal::Answer
     if info.symbol_size % info.symbol_alignment as u16 != 0 {
         return refusal::Answer::Refused(Refusal::BadTransmission);
     }
-    if is_crowded(
-        info.transfer_length,
-        info.symbol_size,
-        info.num_source_blocks,
-    ) {
+    if info.symbol_size == 0 {
+        return refusal::Answer::Refused(Refusal::BadTransmission);
+    }
+    if info.num_source_blocks == 0 {
+        return refusal::Answer::Refused(Refusal::BadTransmission);
+    }
+    if info.num_sub_blocks == 0 {
+        return refusal::Answer::Refused(Refusal::BadTransmission);
+    }
+    if info.num_sub_blocks > info.symbol_size / info.symbol_alignment as u16 {
+        return refusal::Answer::Refused(Refusal::BadTransmission);
+    }
+    // No block of more symbols than the largest K' (RFC 6330, 4.4.1.2).
+    let symbols = util::int_div_ceil(info.transfer_length, info.symbol_size as u64);
+    if util::int_div_ceil(symbols, info.num_source_blocks as u64) > 56403 {
         return refusal::Answer::Refused(Refusal::BadTransmission);
     }
     refusal::Answer::Done

@@ -45,8 +45,7 @@ fn accepted() {
     header(b"example");
     header(b"largest");
     header(b"56403-symbols");
-    header(b"no-size");
-    header(b"no-blocks");
+    header(b"128-sub-blocks");
     header(b"reserved-byte-set");
 }
 
@@ -56,6 +55,10 @@ fn refused_3() {
     header(b"2-to-the-32-symbols");
     header(b"no-alignment");
     header(b"not-aligned");
+    header(b"no-size");
+    header(b"no-blocks");
+    header(b"no-sub-blocks");
+    header(b"129-sub-blocks");
     header(b"all-ones");
 }
 

@@ -56,6 +56,15 @@ fn answered() {
     sample(b"wrong-id");
 }
 
+// Refusal 3: a number of the transmission information that is 0, or more sub-blocks than units of a symbol.
+fn misannounced() {
+    sample(b"no-alignment");
+    sample(b"no-size");
+    sample(b"no-blocks");
+    sample(b"no-sub-blocks");
+    sample(b"crowded-symbol");
+}
+
 // One for each part of refusal 4 that a delivery can lead to.
 fn mistyped() {
     sample(b"typed-j");
@@ -70,7 +79,7 @@ fn mistyped() {
 }
 
 fn not_taken() {
-    sample(b"no-alignment");
+    misannounced();
     mistyped();
     sample(b"cut-tables");
     sample(b"cut-head");
@@ -78,6 +87,7 @@ fn not_taken() {
     sample(b"no-object");
     sample(b"large-symbols");
     sample(b"two-blocks");
+    sample(b"two-sub-blocks");
 }
 
 fn main() {

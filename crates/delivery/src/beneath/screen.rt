@@ -34,9 +34,6 @@ fn screen_shape(o: ObjectTransmissionInformation) -> Screened
     if o.num_sub_blocks != 1 {
         return Screened::Stopped(Stop::SeveralBlocks);
     }
-    if o.symbol_size == 0 {
-        return Screened::Stopped(Stop::Refused(Refusal::BadSize));
-    }
     Screened::Passed
 }
 
