@@ -70,7 +70,7 @@ extern "C" {
 #define SPOONRIPPLE_DIVISOR_ZERO 1
 /* A number is outside its range. */
 #define SPOONRIPPLE_OUT_OF_RANGE 2
-/* Transmission information breaks its rules. */
+/* Transmission information breaks its rules: spoonripple_transmission_check lists them. */
 #define SPOONRIPPLE_BAD_TRANSMISSION 3
 /* The parameter row breaks its rules, or L, P, B or P1 of its record is not that of the row: always with a part, so that it is
  * SPOONRIPPLE_NUMBER(result) that is 4, never the result itself. */
@@ -183,8 +183,11 @@ uint32_t spoonripple_transmission_read(const uint8_t *bytes, size_t bytes_len, u
  * Refusals: 2 (f of 2^40 or more), 8 (store below 12 bytes). Writes the first 12 bytes of store. */
 uint32_t spoonripple_transmission_write(uint64_t f, uint16_t t, uint8_t z, uint16_t n, uint8_t al, uint8_t *store, size_t store_len);
 
-/* Applies the rules: F at most 942,574,504,275, Al not 0, T a multiple of Al, and ceil(ceil(F/T)/Z) at most 56,403 where
- * neither T nor Z is 0. T = 0 and Z = 0 pass, as in the crate raptorq: test them before you divide.
+/* Applies the rules: F at most 942,574,504,275, Al not 0, T a multiple of Al, T not 0, Z not 0, N not 0, N at most T/Al, and
+ * ceil(ceil(F/T)/Z) at most 56,403. So with SPOONRIPPLE_DONE Al and Z are at least 1 and N is in 1..T/Al, which is proved
+ * (crates/headers/proofs/Information.antt): T, Z, N and Al may be divided by without asking again. F may be 0, and Z above
+ * ceil(F/T): then a block has no symbol. The crate raptorq accepts T, Z or N of 0 and N above T/Al (D36 to D39 of
+ * docs/DIFFERENCES.md).
  * Refusals: 3 (a rule is broken). Nothing is lent. */
 uint32_t spoonripple_transmission_check(uint64_t f, uint16_t t, uint8_t z, uint16_t n, uint8_t al);
 

@@ -42,7 +42,7 @@ int main(int argc, char **argv) {
     size_t came = (sizeof delivery - 12) / 8, n = argc > 1 ? strtoul(argv[1], NULL, 10) : came;
     if (n > came) n = came;
 
-    /* Reading applies no rule: without the check a damaged header would make up a block size. T = 0 passes it. */
+    /* Reading applies no rule: without the check a damaged header would make up a block size. After it T is not 0. */
     stop_at(spoonripple_transmission_read(delivery, 12, info, 5), "header");
     stop_at(spoonripple_transmission_check(info[0], info[1], info[2], info[3], info[4]), "header");
     uint64_t length = info[0];

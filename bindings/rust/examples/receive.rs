@@ -31,11 +31,11 @@ impl Station {
     /// Refused where the header is not one that a sender may send, or that this station expects.
     pub fn new(header: &[u8]) -> Result<Station, Refusal> {
         let info = ObjectTransmissionInformation::read(header)?;
-        // Reading applies no rule: without this a damaged header would make up a block size.
+        // Reading applies no rule: without this a damaged header would make up a block size. After it T and Z are not 0.
         info.check()?;
         let (length, t) = (info.transfer_length as usize, info.symbol_size);
-        // The check lets T = 0 pass, as the crate raptorq does; and more sub-blocks than one would have to be put in order afterwards (RFC 6330, 4.4.1.2).
-        if info.transfer_length > LONGEST || t == 0 || info.num_sub_blocks != 1 {
+        // More sub-blocks than one would have to be put in order afterwards (RFC 6330, 4.4.1.2).
+        if info.transfer_length > LONGEST || info.num_sub_blocks != 1 {
             return Err(Refusal::BadTransmission);
         }
         // ceil(F/T) symbols in Z blocks: the first ones have one symbol more.

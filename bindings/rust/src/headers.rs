@@ -58,14 +58,16 @@ impl ObjectTransmissionInformation {
         })
     }
 
-    /// Writes 12 bytes at the front of `store`, of which the rest stays. Refused: 2 where F is 2^40 or more, then 8 where the store is shorter.
+    /// Writes 12 bytes at the front of `store`, of which the rest stays, and applies no rule. Refused: 2 where F is 2^40 or more, then 8 where the store is shorter.
     pub fn write(self, store: &mut [u8]) -> Result<(), Refusal> {
         let (f, t, z, n, al) = self.numbers();
         done(unsafe { sys::spoonripple_transmission_write(f, t, z, n, al, store.as_mut_ptr(), store.len()) })
     }
 
-    /// Refused: 3 where F is above 942,574,504,275, Al is 0, T is no multiple of Al, or a block would have more than 56,403 symbols. T or Z of 0
-    /// pass, as in the crate raptorq; a block of theirs is refused later.
+    /// Refused: 3 where F is above 942,574,504,275; Al, T, Z or N is 0; T is no multiple of Al; N is above T/Al; or a block would have more than
+    /// 56,403 symbols. So after it T, Z, N and Al may be divided by without asking again. The crate raptorq accepts T, Z or N of 0 and N above T/Al.
+    ///
+    /// F of 0 passes, and Z above ceil(F/T): a block without a symbol is refused later, by 9.
     pub fn check(self) -> Result<(), Refusal> {
         let (f, t, z, n, al) = self.numbers();
         done(unsafe { sys::spoonripple_transmission_check(f, t, z, n, al) })

@@ -16,7 +16,7 @@ pub enum Refusal {
     DivisorZero,
     /// 2: a number is outside its range.
     OutOfRange,
-    /// 3: transmission information breaks its rules.
+    /// 3: transmission information breaks its rules, which [`check`](crate::headers::ObjectTransmissionInformation::check) lists.
     BadTransmission,
     /// 4: the parameter row breaks its rules, or L, P, B or P1 is not that of the row; with the first rule that breaks, and the numbers.
     BadRow(BadRow),

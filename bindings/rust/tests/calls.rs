@@ -141,6 +141,25 @@ fn transmission_information_is_read_written_and_checked() {
         assert_eq!(bad.check(), Err(Refusal::BadTransmission), "{bad:?}");
     }
     assert_eq!(ObjectTransmissionInformation { transfer_length: 56403 * 1024, ..crowded }.check(), Ok(()));
+    // T, Z and N of 0, and N above T/Al: the check alone refuses them, reading and writing do not.
+    let of = |symbol_size, num_source_blocks, num_sub_blocks| ObjectTransmissionInformation { symbol_size, num_source_blocks, num_sub_blocks, ..info };
+    for (bad, rest) in [
+        (of(0, 1, 1), [0, 0, 1, 0, 1, 8]),
+        (of(1024, 0, 1), [4, 0, 0, 0, 1, 8]),
+        (of(1024, 1, 0), [4, 0, 1, 0, 0, 8]),
+        (of(1024, 1, 129), [4, 0, 1, 0, 129, 8]),
+        // All three at once, and the largest N.
+        (of(0, 0, 0), [0, 0, 0, 0, 0, 8]),
+        (of(1024, 1, u16::MAX), [4, 0, 1, 255, 255, 8]),
+    ] {
+        assert_eq!(bad.check(), Err(Refusal::BadTransmission), "{bad:?}");
+        let sent = [&sent[..6], &rest].concat();
+        assert_eq!((ObjectTransmissionInformation::read(&sent), bad.write(&mut store)), (Ok(bad), Ok(())));
+        assert_eq!((&store[..12], &store[12..]), (&sent[..], &[9, 9][..]));
+    }
+    for taken in [of(1024, 1, 128), of(1024, 1, 1), of(8, 1, 1), of(1024, u8::MAX, 128)] {
+        assert_eq!(taken.check(), Ok(()), "{taken:?}");
+    }
 }
 
 #[test]

@@ -7,6 +7,7 @@ mod receive;
 use receive::Station;
 use spoonripple::Refusal;
 use spoonripple::Verdict::{self, Contradiction, Open, Solved};
+use spoonripple::headers::ObjectTransmissionInformation;
 
 const STREAM: &[u8] = include_bytes!("../data/stream.bin");
 
@@ -80,7 +81,24 @@ fn headers_that_it_does_not_take() {
     assert_eq!(Station::new(&STREAM[..11]).err(), Some(Refusal::WrongLength));
     // F of 900 GB, T of 0, Z of 0, two sub-blocks, Al of 0; and F of 0, a block without a symbol.
     let header = [refused(0, 209), refused(7, 0), refused(8, 0), refused(10, 2), refused(11, 0)];
-    use Refusal::{BadTransmission, OutOfRange};
-    assert_eq!(header.map(Option::unwrap), [BadTransmission, BadTransmission, OutOfRange, BadTransmission, BadTransmission]);
+    assert_eq!(header.map(Option::unwrap), [Refusal::BadTransmission; 5]);
     assert_eq!(Station::new(&[0, 0, 0, 0, 0, 0, 0, 32, 1, 0, 1, 1]).err(), Some(Refusal::BadCount));
+}
+
+#[test]
+fn headers_that_the_check_refuses() {
+    // T, Z, N and Al as they are sent; the first are those of the stream.
+    let judged = |[t, z, n, al]: [u8; 4]| {
+        let header = [&STREAM[..6], &[0, t, z, 0, n, al]].concat();
+        let info = ObjectTransmissionInformation::read(&header).unwrap();
+        (info.check(), Station::new(&header).err())
+    };
+    assert_eq!(judged([32, 3, 1, 1]), (Ok(()), None));
+    let refused = (Err(Refusal::BadTransmission), Some(Refusal::BadTransmission));
+    for header in [[0, 3, 1, 1], [32, 0, 1, 1], [32, 3, 0, 1], [32, 3, 33, 1], [32, 3, 2, 32]] {
+        assert_eq!(judged(header), refused, "{header:?}");
+    }
+    // As many sub-blocks as a symbol has parts of Al bytes pass the check: it is this station that takes one only.
+    assert_eq!(judged([32, 3, 1, 32]), (Ok(()), None));
+    assert_eq!(judged([32, 3, 32, 1]), (Ok(()), Some(Refusal::BadTransmission)));
 }

@@ -105,6 +105,17 @@ fn headers_are_the_crates() {
     assert_eq!(store[..], theirs);
 }
 
+/// T, Z or N of 0 and N above T/Al: the crate makes such information, and reads and writes it as we do; the check refuses it (D36 to D39).
+#[test]
+fn zero_sizes_are_the_crates_alone() {
+    for (t, z, n) in [(0, 1, 1), (1024, 0, 1), (1024, 1, 0), (1024, 1, 129)] {
+        let info = ObjectTransmissionInformation { transfer_length: 10000, symbol_size: t, num_source_blocks: z, num_sub_blocks: n, symbol_alignment: 8 };
+        let (theirs, mut store) = (raptorq::ObjectTransmissionInformation::new(10000, t, z, n, 8).serialize(), [9; 12]);
+        assert_eq!((ObjectTransmissionInformation::read(&theirs), info.write(&mut store), store), (Ok(info), Ok(()), theirs));
+        assert_eq!(info.check(), Err(Refusal::BadTransmission), "{info:?}");
+    }
+}
+
 #[test]
 fn partitions_are_the_crates() {
     for (i, j) in [(10, 3), (0, 5), (9766, 2), (7, 7), (5, 12), (1 << 24, 255)] {
