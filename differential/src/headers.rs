@@ -71,30 +71,90 @@ fn packets(report: &mut Report, random: &mut Random) {
 /// F, T, Z, N and Al.
 type Information = (u64, u16, u8, u16, u8);
 
-/// Around the limit of the object, around the limit of the blocks, or anything.
-fn any_information(random: &mut Random) -> Information {
-    let al = if random.below(3) == 0 { edgy(random, 8) as u8 } else { 1 << random.below(4) };
-    let t = if random.below(3) == 0 { edgy(random, 16) as u16 } else { u16::from(al).wrapping_mul(random.below(300) as u16) };
-    let (z, n) = (edgy(random, 8) as u8, edgy(random, 16) as u16);
-    let limit = u64::from(t) * u64::from(z) * 56403;
-    let f = match random.below(4) {
-        0 => 942_574_504_275 + random.below(5) - 2,
-        1 => limit.saturating_add(random.below(5)).saturating_sub(2),
-        2 => edgy(random, 40),
-        _ => edgy(random, 64),
-    };
-    (f, t, z, n, al)
+const LONGEST: u64 = 942_574_504_275;
+
+/// Document 01's rules, as document 02, E3, amends them, with exact quotients; each with the kind under which information is counted that breaks it alone. One
+/// is not asked where another that breaks leaves no way to keep it: by 0 nothing is divided, with T = 0 no N is allowed, above its limit F fits no blocks.
+const RULES: [(&str, fn(Information) -> bool); 8] = [
+    ("F above its limit alone", |(f, ..)| f > LONGEST),
+    ("Al of 0 alone", |(.., al)| al == 0),
+    ("T not in units of Al alone", |(_, t, .., al)| al != 0 && t % u16::from(al) != 0),
+    ("T of 0 alone", |(_, t, ..)| t == 0),
+    ("Z of 0 alone", |(_, _, z, ..)| z == 0),
+    ("N of 0 alone", |(.., n, _)| n == 0),
+    ("N above T/Al alone", |(_, t, _, n, al)| t != 0 && al != 0 && n > t / u16::from(al)),
+    ("blocks too large alone", |(f, t, z, ..)| f <= LONGEST && t != 0 && z != 0 && f.div_ceil(t.into()).div_ceil(z.into()) > 56403),
+];
+
+const ACCEPTED: &str = "information accepted";
+
+/// The rules that break, by their kinds.
+fn broken(information: Information) -> Vec<&'static str> {
+    RULES.iter().filter(|(_, breaks)| breaks(information)).map(|(kind, _)| *kind).collect()
 }
 
-/// Document 01's rules, with exact quotients.
-fn breaks_rules((f, t, z, _, al): Information) -> bool {
-    let crowded = t != 0 && z != 0 && f.div_ceil(t.into()).div_ceil(z.into()) > 56403;
-    f > 942_574_504_275 || al == 0 || t % u16::from(al) != 0 || crowded
+/// T: most times a few units of Al, at times 0.
+fn any_size(random: &mut Random, al: u8) -> u16 {
+    match random.below(16) {
+        0 => 0,
+        1..5 => edgy(random, 16) as u16,
+        _ => u16::from(al.max(1)).wrapping_mul(random.below(300) as u16 >> random.below(6)),
+    }
+}
+
+/// N: around 0, around the units of a symbol, any that is allowed, or anything.
+fn any_sub_blocks(random: &mut Random, t: u16, al: u8) -> u16 {
+    let units = t.checked_div(al.into()).unwrap_or(t);
+    let allowed = 1 + random.below(units.max(1).into()) as u16;
+    let (less, more, any) = (units.saturating_sub(1), units.saturating_add(1), edgy(random, 16) as u16);
+    [0, 1, less, units, more, allowed, allowed, any][random.below(8) as usize]
+}
+
+/// F: around its limit, around that of the blocks or within it, where a count of symbols cut to 32 bits is small, or anything.
+fn any_length(random: &mut Random, t: u16, z: u8) -> u64 {
+    let (t, room) = (u64::from(t), u64::from(z) * 56403);
+    match random.below(10) {
+        0 => LONGEST + random.below(5) - 2,
+        1..4 => (t * room + random.below(5)).saturating_sub(2),
+        4..7 => random.below(t * room + 1),
+        7 => (((1 + random.below(3)) << 32) + random.below(2 * room + 1)) * t - random.below(t.max(1)),
+        8 => edgy(random, 40),
+        _ => edgy(random, 64),
+    }
+}
+
+/// On both sides of each rule, often with all others kept.
+fn any_information(random: &mut Random) -> Information {
+    let al = if random.below(3) == 0 { edgy(random, 8) as u8 } else { 1 << random.below(4) };
+    let (t, z) = (any_size(random, al), edgy(random, 8) as u8);
+    (any_length(random, t, z), t, z, any_sub_blocks(random, t, al), al)
+}
+
+/// The layout of RFC 6330, 3.3.2 and 3.3.3; of F the lower 40 bits.
+fn laid((f, t, z, n, al): Information) -> [u8; 12] {
+    let parts = [&f.to_be_bytes()[3..], &[0], &t.to_be_bytes(), &[z], &n.to_be_bytes(), &[al]];
+    parts.concat().try_into().expect("5, 1, 2, 1, 2 and 1 bytes")
 }
 
 fn transmission(report: &mut Report, random: &mut Random) {
+    let information = any_information(random);
+    read(report, random, information);
+    let made = made(information);
+    check(report, information, made.is_some());
+    write(report, random, information, made);
+}
+
+/// What the crate makes of the five numbers, or None where it panics.
+fn made((f, t, z, n, al): Information) -> Option<ObjectTransmissionInformation> {
+    caught(|| ObjectTransmissionInformation::new(f, t, z, n, al))
+}
+
+/// Any bytes, or those of this information: no rule applies to what is read.
+fn read(report: &mut Report, random: &mut Random, information: Information) {
     let length = if random.below(8) == 0 { random.below(16) as usize } else { 12 };
-    let (bytes, room) = (random.bytes(length), random.room(5));
+    let mut bytes = if random.below(2) == 0 { random.bytes(length) } else { laid(information).to_vec() };
+    bytes.resize(length, 0);
+    let room = random.room(5);
     let ours = values(room, 5, |out| archive::transmission_read(&bytes, out));
     let said = || format!("read transmission information {bytes:?}, room {room}");
     match (refusal(&[(8, length != 12), (8, room < 5)]), <&[u8; 12]>::try_from(bytes.as_slice())) {
@@ -105,34 +165,80 @@ fn transmission(report: &mut Report, random: &mut Random) {
         }
         (refused, _) => report.refusal(ours.err() == refused, said),
     }
-    let information = any_information(random);
-    let (f, t, z, n, al) = information;
-    let made = caught(|| ObjectTransmissionInformation::new(f, t, z, n, al));
-    check(report, information, made.is_some());
-    write(report, random, information, made);
+}
+
+const CUT: &str = "D7 (quotients cut to 32 bits)";
+const NO_SIZE: &str = "D36 (symbol size 0 announced)";
+const NO_BLOCK: &str = "D37 (no source block)";
+const NO_SUB_BLOCK: &str = "D38 (no sub-block)";
+const CROWDED: &str = "D39 (more sub-blocks than units of a symbol)";
+
+/// Why the crate makes information that is refused here: the first rule that it does not have; else its quotients are cut, or there is no reason.
+fn why_made((f, t, z, n, al): Information) -> Option<&'static str> {
+    if t == 0 {
+        Some(NO_SIZE)
+    } else if z == 0 {
+        Some(NO_BLOCK)
+    } else if n == 0 {
+        Some(NO_SUB_BLOCK)
+    } else if t.checked_div(al.into()).is_some_and(|units| n > units) {
+        Some(CROWDED)
+    } else {
+        (f.div_ceil(t.into()) > u32::MAX.into()).then_some(CUT)
+    }
 }
 
 fn check(report: &mut Report, information: Information, made: bool) {
     let (f, t, z, n, al) = information;
     let answer = archive::transmission_check(f, t, z, n, al);
     let said = || format!("check F {f} T {t} Z {z} N {n} Al {al}");
-    match refusal(&[(3, breaks_rules(information))]) {
+    let broken = broken(information);
+    if let [alone] = broken[..] {
+        report.kind(alone);
+    }
+    match refusal(&[(3, !broken.is_empty())]) {
         Some(n) if made => {
-            let cut = t != 0 && z != 0 && f.div_ceil(t.into()) > u32::MAX.into();
-            report.listed("D7 (quotients cut to 32 bits)", answer == Err(n) && cut, said);
+            let why = why_made(information);
+            report.listed(why.unwrap_or(CUT), answer == Err(n) && why.is_some(), said);
         }
         Some(n) => report.listed("D12 (information that breaks its rules)", answer == Err(n), said),
-        None => report.equal(answer == Ok(()) && made, said),
+        None => {
+            report.kind(ACCEPTED);
+            report.equal(answer == Ok(()) && made, said);
+        }
     }
 }
 
-fn write(report: &mut Report, random: &mut Random, (f, t, z, n, al): Information, made: Option<ObjectTransmissionInformation>) {
+/// Information that docs/DIFFERENCES.md names, which the crate makes: where it is refused here by 3, the difference; and a neighbour that both accept.
+const KNOWN: [(Information, Option<&str>); 6] = [
+    ((4_294_967_296, 1, 1, 1, 1), Some(CUT)),
+    ((10_000, 0, 1, 1, 8), Some(NO_SIZE)),
+    ((10_000, 1024, 0, 1, 8), Some(NO_BLOCK)),
+    ((10_000, 1024, 1, 0, 8), Some(NO_SUB_BLOCK)),
+    ((10_000, 1024, 1, 129, 8), Some(CROWDED)),
+    ((10_000, 1024, 1, 128, 8), None),
+];
+
+/// Information whose answer is known: the harness's rules and its attribution, the crate and the check all have to give it.
+fn known_information(report: &mut Report) {
+    for (information, known) in KNOWN {
+        let (f, t, z, n, al) = information;
+        let (ours, made) = (archive::transmission_check(f, t, z, n, al), made(information).is_some());
+        let modelled = broken(information).is_empty() == known.is_none() && why_made(information) == known;
+        let said = || format!("information {information:?}, by hand {known:?}");
+        match known {
+            Some(rule) => report.listed(rule, ours == Err(3) && made && modelled, said),
+            None => report.equal(ours == Ok(()) && made && modelled, said),
+        }
+    }
+}
+
+fn write(report: &mut Report, random: &mut Random, information: Information, made: Option<ObjectTransmissionInformation>) {
+    let (f, t, z, n, al) = information;
     let room = random.room(12);
     let lent = Lent::to(random.bytes(room), |store| archive::transmission_write(f, t, z, n, al, store));
     let said = || format!("write F {f} T {t} Z {z} N {n} Al {al}, room {room}");
-    // The layout of RFC 6330, 3.3.2 and 3.3.3.
-    let parts = [&f.to_be_bytes()[3..], &[0], &t.to_be_bytes(), &[z], &n.to_be_bytes(), &[al]];
-    let laid: [u8; 12] = parts.concat().try_into().expect("5, 1, 2, 1, 2 and 1 bytes");
+    let laid = laid(information);
     match (refusal(&[(2, f >= 1 << 40), (8, room < 12)]), made) {
         (Some(2), made) => {
             let unchecked = caught(|| ObjectTransmissionInformation::with_defaults(f, 1024).serialize());
@@ -307,10 +413,13 @@ pub fn run(count: u64, seed: u64) -> Found {
     times(count / 16, &mut |report, random| numbers(report, random, &tables));
     rng::lent::lend(None);
     thresholds(&mut report);
+    known_information(&mut report);
     tuples(&mut report, &mut random, count / 100);
     by_hand(&mut report);
     near_rules(&mut report, &mut random, count / 500);
     records::tried(&mut report, &mut random, count / 500, &records::HEADERS, 477);
     report.met(1..=10, 1000, count);
+    report.met_listed([7, 12, 13, 36, 37, 38, 39], 1000, count);
+    report.met_kinds(RULES.map(|(kind, _)| kind).into_iter().chain([ACCEPTED]), 1000, count);
     report.close()
 }

@@ -1,5 +1,5 @@
 //! The receiving program, run as a process: deliveries of the crate's encoder, whole, short, damaged and cut, of a few packets and of tens of thousands, with
-//! typing errors in the row and with rows near the rules, against docs/DELIVERY.md in plain Rust.
+//! typing errors in the row, with rows and with transmission information near the rules, against docs/DELIVERY.md in plain Rust.
 use crate::solver::{judged, some};
 use differential::archive::{Arrived, Row};
 use differential::report::{Found, Report};
@@ -23,6 +23,11 @@ fn number(bytes: &[u8]) -> u64 {
     bytes.iter().fold(0, |n, byte| n << 8 | u64::from(*byte))
 }
 
+/// F, T, Z, N and Al.
+fn information(d: &[u8]) -> [u64; 5] {
+    [&d[..5], &d[6..8], &d[8..9], &d[9..11], &d[11..12]].map(number)
+}
+
 fn row(d: &[u8]) -> Row {
     std::array::from_fn(|i| number(&d[12 + 4 * i..][..4]) as u32)
 }
@@ -32,16 +37,12 @@ fn stop(d: &[u8]) -> Option<Cow<'static, str>> {
     if d.len() < 32 {
         return Some("refused 8: the delivery ends in its first 32 bytes".into());
     }
-    let (f, t, z, n, al) = (number(&d[..5]), number(&d[6..8]), d[8], number(&d[9..11]), d[11]);
-    let crowded = t > 0 && z > 0 && f.div_ceil(t).div_ceil(z.into()) > 56403;
-    if f > 942_574_504_275 || al == 0 || t % u64::from(al) != 0 || crowded {
+    let [f, t, z, n, al] = information(d);
+    if f > 942_574_504_275 || al == 0 || t % al != 0 || t == 0 || z == 0 || n == 0 || n > t / al || f.div_ceil(t).div_ceil(z) > 56403 {
         return Some("refused 3: the transmission information breaks its rules".into());
     }
-    if z != 1 || n != 1 {
+    if z > 1 || n > 1 {
         return Some("several blocks: this program takes one source block of one sub-block".into());
-    }
-    if t == 0 {
-        return Some("refused 10: the symbol size is 0".into());
     }
     let Some([l, _, _, _]) = sizes(row(d)) else { return typed::line(row(d)).map(Cow::from) };
     let (k, most) = (f.div_ceil(t), u64::from(row(d)[0]));
@@ -182,11 +183,36 @@ fn long(random: &mut Random) -> Vec<u8> {
     d
 }
 
-/// What may happen to it on the way; most times nothing.
+/// What a delivery may announce other than one block of one sub-block, by the kind under which it is counted.
+const ANNOUNCED: [&str; 6] = ["T of 0", "Z of 0", "N of 0", "N above T/Al", "Z above 1", "N from 2 to T/Al"];
+
+/// The first of these that holds, where T is in units of Al.
+fn announced(d: &[u8]) -> Option<&'static str> {
+    let [_, t, z, n, al] = if d.len() < 32 { [0; 5] } else { information(d) };
+    let holds = |units| [t == 0, z == 0, n == 0, n > units, z > 1, n > 1].into_iter().position(|holds| holds);
+    t.checked_div(al).filter(|units| units * al == t).and_then(holds).map(|at| ANNOUNCED[at])
+}
+
+/// Another Al by which T can be divided, and another T, Z or N on either side of its rule.
+fn announce(random: &mut Random, d: &mut [u8]) {
+    let t = number(&d[6..8]) as u16;
+    let alignments: Vec<u16> = (1..=t.min(255)).filter(|al| t % al == 0).collect();
+    let al = alignments[random.below(alignments.len() as u64) as usize];
+    d[11] = al as u8;
+    let units = t / al;
+    let n = [0, 0, 2, units, units + 1, units + 1, 1 + random.below(units.into()) as u16, random.word() as u16][random.below(8) as usize];
+    match random.below(4) {
+        0 => d[6..8].fill(0),
+        1 => d[8] = [0, 0, 2, random.byte()][random.below(4) as usize],
+        _ => d[9..11].copy_from_slice(&n.to_be_bytes()),
+    }
+}
+
+/// What may happen to it on the way, or nothing.
 fn damage(random: &mut Random, d: &mut Vec<u8>) {
     let len = d.len() as u64;
     let step = number(&d[6..8]) as usize + 4;
-    match random.below(10) {
+    match random.below(12) {
         0 => d.truncate(random.below(len + 1) as usize),
         1 => d.truncate([31, 32, 4127, 4128][random.below(4) as usize]),
         2 => d[random.below(32) as usize] ^= 1 << random.below(8),
@@ -194,6 +220,7 @@ fn damage(random: &mut Random, d: &mut Vec<u8>) {
         4 => d[32 + random.below(4096) as usize] ^= random.byte(),
         5 if len > 4128 => d[4128 + random.below(len - 4128) as usize] ^= 1 << random.below(8),
         6 if len > 4128 => d[4128 + step * random.below((len - 4128) / step as u64) as usize + random.below(4) as usize] ^= 1,
+        7 | 8 => announce(random, d),
         _ => {}
     }
 }
@@ -233,6 +260,7 @@ fn tried(report: &mut Report, program: &Program, d: &[u8], seed: u64, number: u6
     let nothing = Files::new();
     let same = program.run(&[], piped(), &nothing, d) == seen(&due, None, &nothing);
     told(report, &due);
+    announced(d).into_iter().for_each(|kind| report.kind(kind));
     report.of(kind, same, || kept(d, seed, number));
     if number % 4 == 0 {
         let path = if number % 8 == 0 { OUT.into() } else { program.folder.join(OUT).display().to_string() };
@@ -324,5 +352,6 @@ pub fn run(count: u64, seed: u64) -> Found {
         tried(&mut report, &program, &d, seed, number);
     }
     report.met(1..=9, 100, count);
+    report.met_kinds(ANNOUNCED, 50, count);
     report.close()
 }

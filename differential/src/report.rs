@@ -102,6 +102,14 @@ impl Report {
         }
     }
 
+    /// That each of these numbers of docs/DIFFERENCES.md was met at least so often.
+    pub fn met_listed(&mut self, numbers: impl IntoIterator<Item = u32>, least: u64, count: u64) {
+        for number in numbers {
+            let times = self.found.listed.get(&number).copied().unwrap_or(0);
+            self.often(times, least, count, || format!("D{number} was met"));
+        }
+    }
+
     /// That there were at least so many cases of each of these kinds.
     pub fn met_kinds(&mut self, kinds: impl IntoIterator<Item = &'static str>, least: u64, count: u64) {
         for kind in kinds {

@@ -45,6 +45,7 @@ fn numbers(v: &mut Vectors, random: &mut Random) {
         v.ask('r', &[y.into(), i.into(), m.into()], caught(|| vec![rng::rand(y, i, m)]), 2);
         let (t, z, al) = (8 * random.below(300) as u16, random.byte(), 1 << random.below(5));
         let f = (u64::from(t) * u64::from(z) * 56403).saturating_sub(random.below(2_000_000)) + 1_000_000;
+        // But for D7, D36 and D37 of docs/DIFFERENCES.md, where the crate's answer is not ours; with N = 1 there are no others.
         if t != 0 && z != 0 && f.div_ceil(t.into()) <= u32::MAX.into() {
             let taken = caught(|| ObjectTransmissionInformation::new(f, t, z, 1, al)).is_some();
             v.put('c', &[f, t.into(), z.into(), 1, al.into()], if taken { "accepted " } else { "refused 3 " });

@@ -131,7 +131,16 @@ fn damage(w: &Wish, head: &mut [u8], packets: &mut [Vec<u8>], random: &mut Rando
         "end" => drop(packets.last_mut().ok_or(none)?.pop()),
         "empty" => head[..5].fill(0),
         "alignment" => head[11] = 0,
+        "size" => head[6..8].fill(0),
+        "no-blocks" => head[8] = 0,
+        "no-sub-blocks" => head[9..11].fill(0),
+        "crowded" => {
+            let units = w.symbol_size / u16::from(w.alignment);
+            let more = units.checked_add(1).ok_or("no N is above T/Al")?;
+            head[9..11].copy_from_slice(&more.to_be_bytes());
+        }
         "blocks" => head[8] = 2,
+        "sub-blocks" => head[9..11].copy_from_slice(&[0, 2]),
         other => return Err(format!("there is no damage {other}").into()),
     }
     Ok(())
