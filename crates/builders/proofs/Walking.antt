@@ -16,7 +16,8 @@ use Rattle.headers.specs.declared.tuple.Tuple.{Tuple}
 use Rattle.constraints.specs.Encoding.{visits}
 use Rattle.constraints.specs.Ldpc.{adds}
 use Rattle.constraints.specs.Walk.{Walks, places}
-use Rattle.constraints.proofs.Distinct.{places-length, places-lt}
+use Rattle.constraints.proofs.Distinct.{places-lt}
+use Rattle.constraints.proofs.Lists.{places-length}
 use Rattle.constraints.proofs.Marks.{walk-held}
 use Rattle.builders.specs.Adding.{only}
 
@@ -30,7 +31,7 @@ module _ (w p p1 : ℕ) (t : Tuple) (s : Walks w p p1) (b : Bounds w p1 t) {old 
   held = walk-held w p p1 t s b l
 
   pub place-lt : (k : ℕ) → k < t .d + t .d1 → getD list k 0 < w + p
-  place-lt k h = subst (λ (n : ℕ). n < w + p) (sym (held k h)) (places-lt w p p1 t s b k (omega (arith, places-length w p p1 t s b)))
+  place-lt k h = subst (λ (n : ℕ). n < w + p) (sym (held k h)) (places-lt w p p1 t s b k (omega (arith, places-length w p p1 t)))
 
   pub walk-sum : (i r c : ℕ) → sum (t .d + t .d1) (λ k. adds r c i (getD list k 0)) ≡ only i (visits (places w p p1 t)) r c
   unfolding adds visits
@@ -38,4 +39,4 @@ module _ (w p p1 : ℕ) (t : Tuple) (s : Walks w p p1) (b : Bounds w p1 t) {old 
       chosen (eqb r i) (t .d + t .d1) (λ k. unit c (getD list k 0))
       ∙ ap (λ (n : ℕ). pick (eqb r i) n 0)
       (sum-same (t .d + t .d1) (λ k h. ap (unit c) (held k h))
-      ∙ ap (λ (n : ℕ). sum n (λ k. unit c (getD (places w p p1 t) k 0))) (sym (places-length w p p1 t s b)))
+      ∙ ap (λ (n : ℕ). sum n (λ k. unit c (getD (places w p p1 t) k 0))) (sym (places-length w p p1 t)))

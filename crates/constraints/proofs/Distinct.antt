@@ -1,18 +1,18 @@
 -- The places of a tuple: all are places of intermediate symbols, and no two are the same. So setting ones is adding them.
 -- Assumes nothing.
-use mathlib.Core.Path.{_≡_, sym, ap, ap₂, _∙_, subst}
+use mathlib.Core.Path.{_≡_, sym, ap, _∙_, subst}
 use Prim.Native.Nat.{ℕ, suc, _+_, _-_, _*_, _%_, _<_, _≤_}
 use native.Mathlib.Nat.{mod-lt}
 use native.Mathlib.Decide.{decLt, ℕ-discrete}
 use native.Mathlib.Omega.{arith}
-use lib.ListN.{length, getD, length-append, List·getD-append}
+use lib.ListN.{length, getD, List·getD-append}
 use lib.Seq.{getD-append-add}
 use Rattle.constraints.proofs.Modular.{apart}
 use Rattle.headers.specs.Tuples.{Bounds}
 use Rattle.constraints.specs.Walk.{ltPlaces, land, piPlaces, places, Walks, Distinct}
 use Rattle.headers.specs.declared.tuple.Tuple.{Tuple}
 use Rattle.constraints.proofs.Steps.{land-lt, hop-other, hop-third}
-use Rattle.constraints.proofs.Lists.{start, start-suc, start-lt, lt-length, lt-at, pi-length, pi-at}
+use Rattle.constraints.proofs.Lists.{start, start-suc, start-lt, lt-length, lt-at, pi-at, places-length}
 
 -- a number below p that is neither of two, where p is at least 3
 third : (p x y : ℕ) → 3 ≤ p → (z : ℕ) × (z < p) × (x ≡ z → ⊥) × (y ≡ z → ⊥)
@@ -72,12 +72,6 @@ module _ (w p p1 : ℕ) (t : Tuple) (s : Walks w p p1) (k : Bounds w p1 t) where
 
   -- ---- the whole list
 
-  pub places-length : length (places w p p1 t) ≡ t .d + t .d1
-  unfolding places
-  places-length =
-      length-append (ltPlaces w (t .a) (t .d) (t .b)) (piPlaces w p p1 (t .a1) (t .d1) (t .b1))
-      ∙ ap₂ _+_ (lt-length w (t .a) (t .d) (t .b)) (pi-length p p1 (t .a1) w (t .d1) (t .b1))
-
   front : (i : ℕ) → i < t .d → getD (places w p p1 t) i 0 ≡ (t .b + i * t .a) % w
   unfolding places
   front i h =
@@ -105,7 +99,7 @@ module _ (w p p1 : ℕ) (t : Tuple) (s : Walks w p p1) (k : Bounds w p1 t) where
     where
       go : Dec (i < t .d) → getD (places w p p1 t) i 0 < w + p
       go (yes l) = omega (arith, low i l)
-      go (no l) = omega (arith, back' i (omega arith) (omega (arith, places-length)), pi-lt (i - t .d))
+      go (no l) = omega (arith, back' i (omega arith) (omega (arith, places-length w p p1 t)), pi-lt (i - t .d))
 
   pub places-distinct : Distinct (places w p p1 t)
   places-distinct i j o h e = go (decLt j (t .d)) (decLt i (t .d))
@@ -114,7 +108,7 @@ module _ (w p p1 : ℕ) (t : Tuple) (s : Walks w p p1) (k : Bounds w p1 t) where
       go (yes l) (yes m) =
           apart (s .w-prime) (t .a) (t .b) i j (k .a-low) (k .a-high) o (omega (arith, k .d-w)) (sym (front i m) ∙ e ∙ front j l)
       go (yes l) (no m) = omega arith
-      go (no l) (yes m) = omega (arith, low i m, back' j (omega arith) (omega (arith, places-length)))
+      go (no l) (yes m) = omega (arith, low i m, back' j (omega arith) (omega (arith, places-length w p p1 t)))
       go (no l) (no m) =
-          pi-apart (i - t .d) (j - t .d) (omega arith) (omega (arith, k .d1-high, places-length))
-          (omega (arith, back' i (omega arith) (omega (arith, places-length)), back' j (omega arith) (omega (arith, places-length))))
+          pi-apart (i - t .d) (j - t .d) (omega arith) (omega (arith, k .d1-high, places-length w p p1 t))
+          (omega (arith, back' i (omega arith) (omega (arith, places-length w p p1 t)), back' j (omega arith) (omega (arith, places-length w p p1 t))))

@@ -9,5 +9,6 @@ pub mod Closed
 pub mod Marks
 pub mod Accepted
 pub mod Rows
+pub mod Longest
 pub mod Settled
 mod Examples

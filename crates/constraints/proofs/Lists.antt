@@ -1,12 +1,13 @@
--- The two lists of places: how long they are, and what stands where.
+-- The two lists of places, and the walk of both: how long they are, and what stands where.
 -- Assumes nothing.
-use mathlib.Core.Path.{_≡_, refl, sym, ap, _∙_}
+use mathlib.Core.Path.{_≡_, refl, sym, ap, ap₂, _∙_}
 use Prim.Native.Nat.{ℕ, zero, suc, _+_, _*_, _%_, _<_}
 use native.Mathlib.Nat.{mod-lt}
 use native.Mathlib.Numerals.{add-one}
 use native.Mathlib.Omega.{arith}
-use lib.ListN.{length, getD}
-use Rattle.constraints.specs.Walk.{ltPlaces, land, piPlaces}
+use lib.ListN.{length, getD, length-append}
+use Rattle.headers.specs.declared.tuple.Tuple.{Tuple}
+use Rattle.constraints.specs.Walk.{ltPlaces, land, piPlaces, places}
 use Rattle.constraints.proofs.Steps.{one-more, from-start}
 
 -- ---- the LT places
@@ -57,3 +58,11 @@ module _ (p p1 a : ℕ) where
 
   pub pi-is : (w d b i x y : ℕ) → i < d → x ≡ start i b → y ≡ land p p1 a p1 x → w + y ≡ getD (piPlaces w p p1 a d b) i 0
   pi-is w d b i x y h e f = ap (λ (z : ℕ). w + z) (f ∙ ap (land p p1 a p1) e) ∙ sym (pi-at w d b i h)
+
+-- ---- the whole walk, of any tuple
+
+pub places-length : (w p p1 : ℕ) (t : Tuple) → length (places w p p1 t) ≡ t .d + t .d1
+unfolding places
+places-length w p p1 t =
+    length-append (ltPlaces w (t .a) (t .d) (t .b)) (piPlaces w p p1 (t .a1) (t .d1) (t .b1))
+    ∙ ap₂ _+_ (lt-length w (t .a) (t .d) (t .b)) (pi-length p p1 (t .a1) w (t .d1) (t .b1))

@@ -19,7 +19,8 @@ use Rattle.headers.specs.Tuples.{Bounds}
 use Rattle.headers.specs.declared.tuple.Tuple.{Tuple}
 use Rattle.constraints.specs.Walk.{Walks, Distinct, places}
 use Rattle.constraints.specs.Encoding.{visits, Markable}
-use Rattle.constraints.proofs.Distinct.{places-length, places-lt, places-distinct}
+use Rattle.constraints.proofs.Distinct.{places-lt, places-distinct}
+use Rattle.constraints.proofs.Lists.{places-length}
 
 -- ---- the sum over a walk
 
@@ -84,7 +85,7 @@ module _ {list xs : List ℕ} {at n l : ℕ} (m : Markable list xs at n l) where
 -- a list in which a walk was laid holds its places
 pub walk-held : (w p p1 : ℕ) (t : Tuple) → Walks w p p1 → Bounds w p1 t → {old list : List ℕ} → Laid (places w p p1 t) old list 0 → (k : ℕ) → k < t .d + t .d1
     → getD list k 0 ≡ getD (places w p p1 t) k 0
-walk-held w p p1 t s b {list = list} walked k h = ap (λ (i : ℕ). getD list i 0) (sym (zero-add k)) ∙ walked .part k (omega (arith, places-length w p p1 t s b))
+walk-held w p p1 t s b {list = list} walked k h = ap (λ (i : ℕ). getD list i 0) (sym (zero-add k)) ∙ walked .part k (omega (arith, places-length w p p1 t))
 
 -- ---- a run that is cleared, and then has the places of a tuple set
 
@@ -97,8 +98,8 @@ module _ (w p p1 : ℕ) (t : Tuple) (s : Walks w p p1) (b : Bounds w p1 t) {l : 
   markable r =
       record {
         read = r;
-        apart = λ i j a h q. places-distinct w p p1 t s b i j a (omega (arith, places-length w p p1 t s b)) (sym (held i (omega arith)) ∙ q ∙ held j h);
-        inside = λ k h. omega (arith, e, held k h, places-lt w p p1 t s b k (omega (arith, places-length w p p1 t s b)));
+        apart = λ i j a h q. places-distinct w p p1 t s b i j a (omega (arith, places-length w p p1 t)) (sym (held i (omega arith)) ∙ q ∙ held j h);
+        inside = λ k h. omega (arith, e, held k h, places-lt w p p1 t s b k (omega (arith, places-length w p p1 t)));
         blank = clear .part;
         room = omega (arith, clear .size);
       }
@@ -110,7 +111,7 @@ module _ (w p p1 : ℕ) (t : Tuple) (s : Walks w p p1) (b : Bounds w p1 t) {l : 
       record {
         size = u .size ∙ clear .size;
         part = λ c h. u .part c h ∙ sum-same (t .d + t .d1) (λ k q. ap (unit c) (held k q))
-            ∙ ap (λ (n : ℕ). sum n (λ k. unit c (getD (places w p p1 t) k 0))) (sym (places-length w p p1 t s b));
+            ∙ ap (λ (n : ℕ). sum n (λ k. unit c (getD (places w p p1 t) k 0))) (sym (places-length w p p1 t));
         low = λ k h. u .low k h ∙ clear .low k h;
         high = λ k h. u .high k h ∙ clear .high k h;
       }

@@ -1,4 +1,4 @@
--- The walk of a tuple, for a checked row: how many places it has, that they are within L and that it meets none twice. The row of an ISI has ones
+-- The walk of a tuple: how many places it has and, for a checked row, that they are within L and that it meets none twice. The row of an ISI has ones
 -- at them, and 0 elsewhere.
 -- Assumes nothing.
 use mathlib.Core.Path.{_≡_}
@@ -6,7 +6,7 @@ use mathlib.Core.List.{List}
 use Prim.Native.Nat.{ℕ, _+_, _<_}
 use native.Mathlib.Omega.{arith}
 use lib.ListN.{length, getD}
-use Rattle.headers.specs.Row.{Obeys, lOf, p1Of}
+use Rattle.headers.specs.Row.{Obeys, lOf, pOf, p1Of}
 use Rattle.headers.specs.Tuples.{Bounds, tupleOf}
 use Rattle.headers.specs.declared.row.Row.{Row}
 use Rattle.headers.specs.declared.tuple.Tuple.{Tuple}
@@ -17,14 +17,16 @@ use Rattle.constraints.specs.Answers.{placesOf}
 use Rattle.constraints.specs.Encoding.{enc, encOf}
 use Rattle.constraints.proofs.Accepted.{walks}
 use Rattle.constraints.proofs.Distinct as walk
+use Rattle.constraints.proofs.Lists.{places-length}
 use Rattle.constraints.proofs.Marks.{visits-at, visits-off}
 
--- ---- the walk of any tuple within its bounds
+-- ---- the walk of any tuple
 
+pub places-count : (r : Row) (t : Tuple) → length (placesOf r t) ≡ t .d + t .d1
+places-count r = places-length (r .w) (pOf r) (p1Of r)
+
+-- and of one within its bounds
 module _ {r : Row} (o : Obeys r) {t : Tuple} (b : Bounds (r .w) (p1Of r) t) where
-  pub places-count : length (placesOf r t) ≡ t .d + t .d1
-  places-count = walk.places-length _ _ _ t (walks o) b
-
   pub places-below : (k : ℕ) → k < length (placesOf r t) → getD (placesOf r t) k 0 < lOf r
   places-below k h = omega (arith, walk.places-lt _ _ _ t (walks o) b k h, l-is o)
 

@@ -1,30 +1,28 @@
--- What is known where a symbol may be encoded; that the walk of a generated tuple fits the working list; and the symbol of an ESI by its walk.
+-- What is known where a symbol may be encoded, and that it then is; and the symbol of an ESI by its walk.
 -- Assumes nothing.
-use mathlib.Core.Path.{_≡_, refl, ap, _∙_, subst}
+use mathlib.Core.Path.{_≡_, ap, _∙_, subst}
 use mathlib.Core.Bool.{not}
 use mathlib.Core.List.{List}
 use Prim.Native.Nat.{ℕ, _+_, _*_, _<_, _≤_}
-use native.Mathlib.Decide.{ℕ-discrete}
 use native.Mathlib.Omega.{arith}
 use borrow.Author.Tests.{ltb-false, leb-false, eqb-true, eqb-false, not-false, le-ltb, le-leb, lt-leb, eq-eqb, ne-eqb}
 use lib.Dec.{eqb, leb, ltb}
 use lib.ListN.{length}
-use Rattle.field.specs.Answer.{Outcome, before, done, given, refused, unless}
+use Rattle.field.specs.Answer.{Outcome, done, given, unless}
 use Rattle.field.specs.Runs.{Written}
 use Rattle.field.proofs.Refusals.{passed}
 use Rattle.field.specs.declared.refusal.Answer as Plain
 use Rattle.headers.specs.Row.{Obeys, between, lOf, pOf, p1Of}
-use Rattle.headers.specs.Tuples.{Bounds, tupleOf}
+use Rattle.headers.specs.Tuples.{tupleOf}
 use Rattle.headers.specs.declared.row.Row.{Row}
 use Rattle.headers.specs.declared.tuple.Tuple.{Tuple}
 use Rattle.headers.proofs.Rules.{obeyed, passed-row}
-use Rattle.headers.proofs.Accepted.{l-is, ready}
+use Rattle.headers.proofs.Accepted.{l-is}
 use Rattle.headers.proofs.Tests.{tells-both, tells-le}
-use Rattle.headers.proofs.Tuples.{bounded, three-below-four}
 use Rattle.constraints.specs.Encoding.{enc}
 use Rattle.constraints.specs.Walk.{places}
-use Rattle.headers.specs.Shift.{shifted}
-use Rattle.encoding.specs.Encoded.{Encodes, allowed, encodes, encoded, walked, tupleOn, steps}
+use Rattle.constraints.proofs.Rows.{tupleIn}
+use Rattle.encoding.specs.Encoded.{Encodes, allowed, encoded, walked}
 
 pub record Allowed (r : Row) (tables k t esi have room : ℕ) : Type 0 where
   pub rules : Obeys r
@@ -67,40 +65,17 @@ allowed-is : {r : Row} {tables k t esi have room : ℕ} → Allowed r tables k t
 allowed-is {r} {tables} {k} {t} {esi} {have} {room} h =
     rw (obeyed (h .rules), eq-eqb tables 1024 (h .all), le-leb 1 k (h .k-low), le-leb k (r .kp) (h .k-high), lt-leb 16777216 esi (h .esi-24), ne-eqb t 0 (h .some), le-ltb have (lOf r * t) (h .enough), le-ltb room t (h .fits))
 
--- the generator gives no longer walk than the working list
-pub walk-fits : {r : Row} → Obeys r → (v : List ℕ) → length v ≡ 1024 → (x : ℕ) → steps (tupleOn v r x) ≤ 32
-walk-fits {r} o v e x =
-    let b = bounded (ready o e) x in
-    go b (ℕ-discrete (tupleOn v r x .d1) 3)
-  where
-    go : Bounds (r .w) (p1Of r) (tupleOn v r x) → Dec (tupleOn v r x .d1 ≡ 3) → steps (tupleOn v r x) ≤ 32
-    go b (yes q) = omega (arith, b .d-high, b .d1-high, three-below-four v (r .j) (r .w) (p1Of r) x q)
-    go b (no q) = omega (arith, b .d-high, b .d1-high)
-
--- so that the refusal of a longer one is never given
-pub never-long : (v : List ℕ) (r : Row) (k t esi have room : ℕ) → encodes v r k t esi have room ≡ allowed r (length v) k t esi have room
-never-long v r k t esi have room = go (allowed r (length v) k t esi have room) refl
-  where
-    x : ℕ
-    x = shifted esi k (r .kp)
-
-    go : (o : Outcome (Unit {0})) → allowed r (length v) k t esi have room ≡ o → before o (unless (ltb 32 (steps (tupleOn v r x))) 8 (given tt)) ≡ o
-    go (given u) e =
-        let h = allowed-well r (length v) k t esi have room e in
-        simp (le-ltb _ _ (walk-fits (h .rules) v (h .all) x))
-    go (refused n) e = refl
-
 -- so a call that may encode is not refused
 pub encodes-done : {v : List ℕ} {r : Row} {k t esi : ℕ} {C xs ys : List ℕ} {a : Plain.Answer} → Allowed r (length v) k t esi (length C) (length xs)
     → Encodes v r k t esi C xs ys a → done a ≡ given tt
-encodes-done {v} {r} {k} {t} {esi} {C} {xs} h u = u .answer ∙ never-long v r k t esi (length C) (length xs) ∙ allowed-is h
+encodes-done h u = u .answer ∙ allowed-is h
 
 -- the tuple that was generated, from what its makers promise
-pub tuple-is : (v : List ℕ) (r : Row) {z : Tuple} {p1 x y : ℕ} → z ≡ tupleOf v (r .j) (r .w) p1 x → p1 ≡ p1Of r → x ≡ y → z ≡ tupleOn v r y
-tuple-is v r {x = x} e f g = e ∙ ap (λ (q : ℕ). tupleOf v (r .j) (r .w) q x) f ∙ ap (tupleOn v r) g
+pub tuple-is : (v : List ℕ) (r : Row) {z : Tuple} {p1 x y : ℕ} → z ≡ tupleOf v (r .j) (r .w) p1 x → p1 ≡ p1Of r → x ≡ y → z ≡ tupleIn v r y
+tuple-is v r {x = x} e f g = e ∙ ap (λ (q : ℕ). tupleOf v (r .j) (r .w) q x) f ∙ ap (tupleIn v r) g
 
 -- the sum over the walk is that over the row
-pub encoded-walk : {r : Row} → Obeys r → (v : List ℕ) (x t : ℕ) (C : List ℕ) {z : Tuple} {p p1 : ℕ} {xs ys : List ℕ} → z ≡ tupleOn v r x → p ≡ pOf r → p1 ≡ p1Of r
+pub encoded-walk : {r : Row} → Obeys r → (v : List ℕ) (x t : ℕ) (C : List ℕ) {z : Tuple} {p p1 : ℕ} {xs ys : List ℕ} → z ≡ tupleIn v r x → p ≡ pOf r → p1 ≡ p1Of r
     → Written (walked t C (r .w + p) (places (r .w) p p1 z)) xs ys 0 t → Written (encoded v r x t C) xs ys 0 t
 unfolding enc
 encoded-walk {r} o v x t C {z} {p} {p1} {xs} {ys} e f g w =

@@ -17,12 +17,12 @@ use Rattle.headers.specs.declared.row.Row.{Row}
 use Rattle.constraints.specs.Encoding.{encOf}
 use Rattle.linear.specs.Bytes.{FitsBytes, cell}
 use Rattle.linear.specs.System.{System}
-use Rattle.encoding.specs.Encoded.{Encodes, encodes, encoded}
+use Rattle.encoding.specs.Encoded.{Encodes, allowed, encoded}
 
 pub encodes-only : {v : List ℕ} {r : Row} {k t esi : ℕ} {C xs ys zs : List ℕ} {p q : Plain.Answer}
     → Encodes v r k t esi C xs ys p → Encodes v r k t esi C xs zs q → (p ≡ q) × (ys ≡ zs)
 encodes-only {v} {r} {k} {t} {esi} {C} {xs} {ys} {zs} {p} {q} a b =
-    settled-written done done-only (encodes v r k t esi (length C) (length xs)) xs (encoded v r (shifted esi k (r .kp)) t C) 0 t p q ys zs
+    settled-written done done-only (allowed r (length v) k t esi (length C) (length xs)) xs (encoded v r (shifted esi k (r .kp)) t C) 0 t p q ys zs
     (a .answer, a .memory) (b .answer, b .memory)
 
 -- the equation i of S is that of the ISI x

@@ -21,7 +21,8 @@ use Rattle.headers.specs.Tuples.{Bounds}
 use Rattle.headers.specs.declared.tuple.Tuple.{Tuple}
 use Rattle.constraints.specs.Encoding.{visits}
 use Rattle.constraints.specs.Walk.{Walks, places}
-use Rattle.constraints.proofs.Distinct.{places-length, places-lt}
+use Rattle.constraints.proofs.Distinct.{places-lt}
+use Rattle.constraints.proofs.Lists.{places-length}
 use Rattle.linear.specs.Bytes.{cell}
 use Rattle.encoding.specs.Encoded.{Addable, walked, symbolAdded, symbolsAdded}
 
@@ -83,14 +84,14 @@ enough-added t d C ps {ys} w e = subst (λ (j : ℕ). Written (symbolsAdded t d 
 module _ (w p p1 : ℕ) (z : Tuple) (s : Walks w p p1) (b : Bounds w p1 z) (t : ℕ) (C : List ℕ) {old list xs ys : List ℕ} (laid : Laid (places w p p1 z) old list 0)
     (clear : Written (λ k. 0) xs ys 0 t) where
   held : (k : ℕ) → k < z .d + z .d1 → getD list k 0 ≡ getD (places w p p1 z) k 0
-  held k h = ap (λ (i : ℕ). getD list i 0) (sym (zero-add k)) ∙ laid .part k (omega (arith, places-length w p p1 z s b))
+  held k h = ap (λ (i : ℕ). getD list i 0) (sym (zero-add k)) ∙ laid .part k (omega (arith, places-length w p p1 z))
 
   pub addable : {n : ℕ} → n ≤ z .d + z .d1 → z .d + z .d1 ≤ length list → t ≤ length xs → (w + p) * t ≤ length C → Addable t ys C list n
   addable {n} some r room enough =
       record {
         read = omega arith;
         inside = λ k h.
-            let l : getD list k 0 < w + p = subst (λ (q : ℕ). q < w + p) (sym (held k (omega arith))) (places-lt w p p1 z s b k (omega (arith, places-length w p p1 z s b))) in
+            let l : getD list k 0 < w + p = subst (λ (q : ℕ). q < w + p) (sym (held k (omega arith))) (places-lt w p p1 z s b k (omega (arith, places-length w p p1 z))) in
             omega (arith, block-ends t l);
         room = omega (arith, clear .size);
       }
@@ -105,7 +106,7 @@ module _ (w p p1 : ℕ) (z : Tuple) (s : Walks w p p1) (b : Bounds w p1 z) (t : 
             u .part k h ∙ ap (λ (x : ℕ). plus x (sum (z .d + z .d1) (λ j. cell t C (getD list j 0) k))) (ap (λ (j : ℕ). getD ys j 0) (sym (zero-add k)) ∙ clear .part k h)
             ∙ xor-zero-l (sum (z .d + z .d1) (λ j. cell t C (getD list j 0) k))
             ∙ sum-same (z .d + z .d1) (λ j l. ap (λ (q : ℕ). cell t C q k) (held j l))
-            ∙ ap (λ (n : ℕ). sum n (λ j. cell t C (getD ps j 0) k)) (sym (places-length w p p1 z s b))
+            ∙ ap (λ (n : ℕ). sum n (λ j. cell t C (getD ps j 0) k)) (sym (places-length w p p1 z))
             ∙ visited (w + p) (λ c. cell t C c k) ps (places-lt w p p1 z s b) (λ c. bytes (c * t + k));
         low = λ k h. u .low k h ∙ clear .low k h;
         high = λ k h. u .high k h ∙ clear .high k h;

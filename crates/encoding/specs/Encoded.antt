@@ -10,12 +10,10 @@ use Rattle.field.specs.Answer.{Outcome, Left, before, done, given, unless}
 use Rattle.field.specs.Octet.{plus, times}
 use Rattle.field.specs.Runs.{Written}
 use Rattle.field.specs.Sum.{sum}
-use Rattle.headers.specs.Row.{verified, between, lOf, p1Of}
+use Rattle.headers.specs.Row.{verified, between, lOf}
 use Rattle.headers.specs.Shift.{shifted}
-use Rattle.headers.specs.Tuples.{tupleOf}
 use Rattle.field.specs.declared.refusal.Answer as Plain
 use Rattle.headers.specs.declared.row.Row.{Row}
-use Rattle.headers.specs.declared.tuple.Tuple.{Tuple}
 use Rattle.constraints.specs.Encoding.{encOf, visits}
 use Rattle.linear.specs.Bytes.{cell}
 
@@ -29,28 +27,16 @@ encoded v r x t C = combined t C (lOf r) (encOf v r x)
 
 -- ---- may a symbol be encoded?
 
--- the tuple of an ISI, of a row, and how many places its walk has
-abbrev pub tupleOn : List ℕ → Row → ℕ → Tuple
-tupleOn v r = tupleOf v (r .j) (r .w) (p1Of r)
-
-abbrev pub steps : Tuple → ℕ
-steps z = z .d + z .d1
-
 -- a row that breaks its rules; tables that are not 1,024 numbers; a K outside 1..K', an ESI of 2^24 or more; T = 0; intermediates below
--- L * T octets, out below T
+-- L * T octets, out below T. Nothing for a long walk (document 02, E13): no ISI has more than the 32 places of the working list (`walk-high`)
 abbrev pub allowed : Row → ℕ → ℕ → ℕ → ℕ → ℕ → ℕ → Outcome (Unit {0})
 allowed r tables k t esi have room =
     before (verified r) (unless (not (eqb tables 1024)) 5 (unless (not (between 1 k (r .kp))) 9 (unless (leb 16777216 esi) 9
     (unless (eqb t 0) 10 (unless (ltb have (lOf r * t)) 8 (unless (ltb room t) 8 (given tt)))))))
 
--- and a walk that is longer than the working list of 32 places
-abbrev pub encodes : List ℕ → Row → ℕ → ℕ → ℕ → ℕ → ℕ → Outcome (Unit {0})
-encodes v r k t esi have room =
-    before (allowed r (length v) k t esi have room) (unless (ltb 32 (steps (tupleOn v r (shifted esi k (r .kp))))) 8 (given tt))
-
 -- the symbol at the front of the store, or the store as it was
 pub record Encodes (v : List ℕ) (r : Row) (k t esi : ℕ) (C xs ys : List ℕ) (a : Plain.Answer) : Type 0 where
-  pub answer : done a ≡ encodes v r k t esi (length C) (length xs)
+  pub answer : done a ≡ allowed r (length v) k t esi (length C) (length xs)
   pub memory : Left (done a) xs ys (Written (encoded v r (shifted esi k (r .kp)) t C) xs ys 0 t)
 
 -- ---- what the functions beneath leave

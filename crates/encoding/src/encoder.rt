@@ -69,10 +69,6 @@ pub fn encode(
     };
     let x = beneath::isi_of(r.kp, k, Esi(esi));
     let z = tuple::intermediate_tuple(tables, x, r.w, r.j, r.p1);
-    // The generator gives no such walk.
-    if z.d + z.d1 > 32 {
-        return refusal::Answer::Refused(Refusal::WrongLength);
-    }
     enc::enc(out, t as usize, intermediates, z, r.w, r.p, r.p1);
     refusal::Answer::Done
 }

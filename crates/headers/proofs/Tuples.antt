@@ -1,10 +1,10 @@
--- What the generator draws is the tuple; it is within its bounds; and d1 is 3 only when d is below 4.
+-- What the generator draws is the tuple; it is within its bounds; and d1 is 3 only when d is below 4, so that the two are 32 together at most.
 -- Assumes nothing.
 use mathlib.Core.Path.{_≡_, sym, subst}
 use mathlib.Core.Bool.{Bool, true, false, not}
 use mathlib.Core.List.{List}
 use Prim.Native.Nat.{ℕ, _+_, _-_, _*_, _<_, _≤_}
-use native.Mathlib.Decide.{decLt}
+use native.Mathlib.Decide.{decLt, ℕ-discrete}
 use native.Mathlib.Nat.{mul-le-mul, mod-lt}
 use native.Mathlib.Omega.{arith}
 use borrow.Author.Tests.{le-ltb, eqb-true, not-false}
@@ -48,6 +48,13 @@ pi-degree-three v d x e = go (decLt d 4)
     go (yes l) = l
     go (no l) = let n : _≡_ {A = ℕ} 2 3 = rw (le-ltb d 4 (omega arith)) at e in absurd (omega arith)
 
+pi-degree-high : (v : List ℕ) (d x : ℕ) → d ≤ 30 → d + piDegree v d x ≤ 32
+pi-degree-high v d x h = go (ℕ-discrete (piDegree v d x) 3)
+  where
+    go : Dec (piDegree v d x ≡ 3) → d + piDegree v d x ≤ 32
+    go (yes e) = omega (arith, pi-degree-three v d x e)
+    go (no n) = omega (arith, pi-degree-bounds v d x .1)
+
 -- what is drawn, field by field
 pub drawn : (v : List ℕ) (j w p1 x : ℕ) {y r d a b d1 a1 b1 : ℕ} → y ≡ seed j x → r ≡ random v y 0 1048576 → d ≡ degree r w
     → a ≡ random v y 1 (w - 1) → b ≡ random v y 2 w → d1 ≡ piDegree v d x → a1 ≡ random v x 4 (p1 - 1) → b1 ≡ random v x 5 p1
@@ -81,6 +88,13 @@ pub three-below-four : (v : List ℕ) (j w p1 x : ℕ) → tupleOf v j w p1 x .d
 unfolding tupleOf
 three-below-four v j w p1 x = pi-degree-three v (degree (random v (seed j x) 0 1048576) w) x
 
+-- so 30 and 3 never meet, whatever the tables and the numbers: d and d1 are 32 together at most
+pub degrees-high : (v : List ℕ) (j w p1 x : ℕ) → tupleOf v j w p1 x .d + tupleOf v j w p1 x .d1 ≤ 32
+unfolding tupleOf
+degrees-high v j w p1 x =
+    let n = random v (seed j x) 0 1048576 in
+    pi-degree-high v (degree n w) x (degree-high n w (random-lt v (seed j x) 0 1048576 (omega arith)))
+
 -- what the generator's answer tells
 module _ (r : Row) (v : List ℕ) (x : ℕ) (t : Tuple) (e : given t ≡ tupleAnswer r v x) where
   pub generated : (Obeys r) × (length v ≡ 1024) × (t ≡ tupleOf v (r .j) (r .w) (p1Of r) x)
@@ -101,3 +115,7 @@ module _ (r : Row) (v : List ℕ) (x : ℕ) (t : Tuple) (e : given t ≡ tupleAn
   pub generated-three : t .d1 ≡ 3 → t .d < 4
   generated-three =
       subst (λ (u : Tuple). u .d1 ≡ 3 → u .d < 4) (sym (generated .2)) (three-below-four v (r .j) (r .w) (p1Of r) x)
+
+  pub generated-high : t .d + t .d1 ≤ 32
+  generated-high =
+      subst (λ (u : Tuple). u .d + u .d1 ≤ 32) (sym (generated .2)) (degrees-high v (r .j) (r .w) (p1Of r) x)

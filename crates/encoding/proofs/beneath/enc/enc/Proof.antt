@@ -10,7 +10,7 @@ slice-aggregate-enc-indices : tie.Need-slice-aggregate-enc-indices
 slice-aggregate-enc-indices c = search needs
 
 enc-indices-requires : tie.Need-enc-indices-requires
-enc-indices-requires c κs = search needs
+enc-indices-requires c κs = let s = c .before .before .before in (s .pre .0, s .pre .1, omega (arith, s .pre .2))
 
 clear-requires : tie.Need-clear-requires
 clear-requires c κs = search needs
