@@ -320,7 +320,8 @@ uint32_t spoonripple_matrix_resize(uint64_t *words, size_t words_len, size_t hei
 
 /* ---- The linear system (RFC 6330, 5.3.3.3 and 5.3.5.3) ---- */
 
-/* The walk of a tuple: the d + d1 intermediate symbols that it adds up, in walk order.
+/* The walk of a tuple: the d + d1 intermediate symbols that it adds up, in walk order. That is 32 at most of what
+ * spoonripple_tuple gives, and 33 at most of a tuple of the caller's own (d 30 and d1 3, with W of 37 or more).
  * Refusals: 4 (the row, with its part), 2 (the tuple: d not in 1..30 or above W - 2, a not in 1..W - 1, tuple_b not below W, d1
  * not 2 or 3, a1 not in 1..P1 - 1, b1 not below P1), 8 (list below d + d1 places). Writes the first d + d1 places of list. */
 uint32_t spoonripple_enc_indices(uint32_t k, uint32_t j, uint32_t s, uint32_t h, uint32_t w, uint32_t l, uint32_t p, uint32_t b, uint32_t p1,
@@ -351,8 +352,7 @@ uint32_t spoonripple_constraint_matrix_no_hdpc(uint32_t k, uint32_t j, uint32_t 
 /* The symbol of an ESI of a block of count source symbols of t octets, from its L intermediate symbols, L * t octets. For an
  * ESI below count that is a source symbol.
  * Refusals: 4 (the row, with its part), 5 (the tables), 9 (count not in 1..K'), 9 (esi of 2^24 or more), 10 (t is 0), 8
- * (intermediates below L * t octets), 8 (out below t octets), 8 (a walk of more than 32 places, which no ESI has). Writes the first
- * t octets of out. */
+ * (intermediates below L * t octets), 8 (out below t octets). Writes the first t octets of out. */
 uint32_t spoonripple_encode(uint32_t k, uint32_t j, uint32_t s, uint32_t h, uint32_t w, uint32_t l, uint32_t p, uint32_t b, uint32_t p1,
                             const uint32_t *tables, size_t tables_len, uint32_t count, uint16_t t, uint32_t esi,
                             const uint8_t *intermediates, size_t intermediates_len, uint8_t *out, size_t out_len);

@@ -5,8 +5,9 @@ use crate::refusal::{Refusal, done};
 use crate::sys;
 use crate::tuples::{Isi, Tuple};
 
-/// The d + d1 intermediate symbols of a tuple's walk, in walk order. They are written to the front of `list`, of which the rest stays. Refused: 2 where
-/// the tuple is outside its bounds, then 8 where the list is too short.
+/// The d + d1 intermediate symbols of a tuple's walk, in walk order. They are written to the front of `list`, of which the rest stays: at most 32 of what
+/// [`tuple`](crate::tuples::tuple) gives, at most 33 of a tuple of the caller's own (d 30 and d1 3, with W of 37 or more). Refused: 2 where the tuple is
+/// outside its bounds, then 8 where the list is too short.
 pub fn enc_indices(row: Row, tuple: Tuple, list: &mut [u32]) -> Result<&[u32], Refusal> {
     let ([k, j, s, h, w, l, p, b, p1], Tuple { d, a, b: tuple_b, d1, a1, b1 }) = (row.numbers(), tuple);
     done(unsafe { sys::spoonripple_enc_indices(k, j, s, h, w, l, p, b, p1, d, a, tuple_b, d1, a1, b1, list.as_mut_ptr(), list.len()) })?;

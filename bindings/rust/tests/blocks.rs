@@ -1,9 +1,11 @@
 //! The calls beneath `Block`: what their stores hold afterwards, and what they refuse.
 #![forbid(unsafe_code)]
 mod common;
-use common::{Packet, Random, Sender, fresh};
+use common::{Packet, Random, Sender, fresh, long_walks, walk};
 use spoonripple::blocks::{Arrivals, Room, Shown, Stores, display, encode, solve};
+use spoonripple::tuples::{isi, tuple};
 use spoonripple::{Refusal, Row, Tables, Verdict};
+use std::collections::BTreeSet;
 
 const K: u32 = 12;
 const T: u16 = 6;
@@ -99,6 +101,34 @@ fn encode_refuses_and_leaves_the_store() {
     refused(encode(row, tables, K, T, 1, &set[1..], &mut symbol), 8);
     refused(encode(row, tables, K, T, 1, &set, &mut symbol[3..]), 8);
     assert_eq!(symbol, before);
+}
+
+/// The symbol of an ESI is the sum of the intermediate symbols, of any octets, at all the places of its walk, of which it tells how many there are.
+fn places_added(row: Row, tables: Tables, count: u32, esi: u32) -> usize {
+    let set = Random::new(esi.into()).bytes(row.l() as usize * usize::from(T));
+    let places = walk(row, tuple(row, tables, isi(row, count, esi).unwrap()));
+    let mut due = [0; T as usize];
+    places.iter().for_each(|place| due.iter_mut().zip(&set[*place as usize * usize::from(T)..]).for_each(|(a, b)| *a ^= b));
+    let mut symbol = [9; T as usize + 2];
+    assert_eq!(encode(row, tables, count, T, esi, &set, &mut symbol), Ok(()), "{row:?} {count} {esi}");
+    assert_eq!((&symbol[..due.len()], &symbol[due.len()..]), (&due[..], &[9, 9][..]), "{row:?} {count} {esi}");
+    places.len()
+}
+
+#[test]
+fn encode_adds_up_all_places_of_a_walk() {
+    let (tables, long) = (Tables::published(), long_walks());
+    // ESIs with d = 30 and d1 = 2: source symbols and repair symbols, in W of 37 and above; in a block of K below K' too.
+    for (count, esi) in [(26, 9), (26, 39), (25, 38), (114, 6), (114, 129), (1002, 15)] {
+        assert_eq!(places_added(Row::published(count).unwrap(), tables, count, esi), 32);
+    }
+    // In a short block walks of every length come.
+    let row = Row::published(26).unwrap();
+    assert_eq!((0..3000).map(|esi| places_added(row, tables, 26, esi)).collect::<BTreeSet<_>>(), (3..=32).collect());
+    // Tables of one's own may make each of them as long as it can be.
+    for row in [row, Row::new([30, 254, 7, 10, 37]).unwrap(), Row::published(114).unwrap()] {
+        assert!((0..300).chain([(1 << 24) - 1]).all(|esi| places_added(row, Tables::new(&long).unwrap(), row.k_prime(), esi) == 32));
+    }
 }
 
 #[test]

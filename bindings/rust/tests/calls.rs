@@ -2,7 +2,7 @@
 //! crate's answers are in recorded.rs and in bindings/rust_oracle.
 #![forbid(unsafe_code)]
 mod common;
-use common::product;
+use common::{long_walks, product, walk};
 use spoonripple::headers::{ObjectTransmissionInformation, Parts, PayloadId, partition, read_packet, write_packet};
 use spoonripple::matrix::Shape;
 use spoonripple::slab::Slab;
@@ -369,6 +369,62 @@ fn walks_are_those_of_document_01() {
     assert_eq!(constraints::enc_indices(row(), first, &mut list[..3]), Err(Refusal::WrongLength));
     assert_eq!(constraints::enc_indices(row(), Tuple { d1: 4, ..first }, &mut []), Err(Refusal::OutOfRange));
     assert_eq!(list, before);
+}
+
+/// A tuple of one's own with d = 30 and d1 = 3, which no ISI has: 33 places, in the row of the least W that takes it and in published ones.
+#[test]
+fn a_walk_of_ones_own_may_have_33_places() {
+    let least = Row::new([30, 254, 7, 10, 37]).unwrap();
+    let first = Tuple { d: 30, a: 1, b: 0, d1: 3, a1: 1, b1: 9 };
+    assert_eq!(walk(least, first), (0..30).chain([46, 37, 38]).collect::<Vec<_>>());
+    for row in [least, Row::published(26).unwrap(), Row::published(1002).unwrap(), Row::published(56403).unwrap()] {
+        let [_, _, _, _, w, _, _, _, p1] = row.numbers();
+        for [a, b, a1, b1] in [[1, 0, 1, 9], [w - 1, 3, p1 - 1, 1], [w / 2, w - 1, p1 / 2, p1 - 1]] {
+            let tuple = Tuple { a, b, a1, b1, ..first };
+            let due = walk(row, tuple);
+            assert_eq!(due.iter().collect::<BTreeSet<_>>().len(), 33);
+            for room in [33, 34, 50] {
+                let mut list = vec![u32::MAX; room];
+                assert_eq!(constraints::enc_indices(row, tuple, &mut list), Ok(&due[..]), "{row:?} {tuple:?}");
+                assert_eq!(list, [&due[..], &vec![u32::MAX; room - 33]].concat());
+            }
+            let mut list = [u32::MAX; 33];
+            for room in [0, 1, 31, 32] {
+                assert_eq!(constraints::enc_indices(row, tuple, &mut list[..room]), Err(Refusal::WrongLength), "{row:?} {tuple:?}");
+            }
+            assert_eq!(constraints::enc_indices(row, Tuple { d: 31, ..tuple }, &mut list), Err(Refusal::OutOfRange));
+            assert_eq!(list, [u32::MAX; 33]);
+        }
+    }
+}
+
+/// W - 2 bounds d too: with W of 31 there are walks of 32 places, and none of 33.
+#[test]
+fn a_walk_of_ones_own_has_at_most_w_less_2_and_3_places() {
+    let row = Row::published(20).unwrap();
+    assert_eq!(row.numbers()[4], 31);
+    let tuple = Tuple { d: 30, a: 30, b: 30, d1: 3, a1: 10, b1: 10 };
+    let mut list = [u32::MAX; 34];
+    for (d1, room) in [(3, 34), (3, 33), (3, 32), (2, 34), (2, 32), (2, 0)] {
+        assert_eq!(constraints::enc_indices(row, Tuple { d1, ..tuple }, &mut list[..room]), Err(Refusal::OutOfRange));
+    }
+    assert_eq!(list, [u32::MAX; 34]);
+    let longest = Tuple { d: 29, ..tuple };
+    assert_eq!(constraints::enc_indices(row, longest, &mut list), Ok(&walk(row, longest)[..]));
+    assert_eq!(list[32..], [u32::MAX; 2]);
+}
+
+/// Of the first 20,000 ESIs of three blocks d and d1 are all that they can be and nothing else: d1 is 3 with d of 1, 2 and 3 alone, so that 32 places are the
+/// most. Tables that draw a 3 for d1 each time make no more of them.
+#[test]
+fn no_walk_of_an_esi_has_33_places() {
+    let long = long_walks();
+    for count in [25, 114, 56403] {
+        let row = Row::published(count).unwrap();
+        let met = |tables| (0..20_000).map(|esi| tuple(row, tables, isi(row, count, esi).unwrap())).map(|t| (t.d, t.d1)).collect::<BTreeSet<_>>();
+        assert_eq!(met(Tables::published()), (1..=30).map(|d| (d, 2)).chain((1..4).map(|d| (d, 3))).collect());
+        assert_eq!(met(Tables::new(&long).unwrap()), BTreeSet::from([(30, 2)]));
+    }
 }
 
 #[test]

@@ -1,6 +1,7 @@
 //! What the tests share, those of bindings/rust_oracle too. Each takes a part of it.
 #![allow(dead_code)]
 use spoonripple::blocks::{Arrivals, Room, Stores, encode, solve};
+use spoonripple::tuples::Tuple;
 use spoonripple::{Block, Row, Tables, Verdict};
 use std::collections::BTreeMap;
 
@@ -56,6 +57,19 @@ pub fn part_due(five: [u32; 5], derived: Option<[u32; 4]>) -> u32 {
     if l > 65535 { return 9; }
     let p1 = (p..).find(|x| prime(*x)).unwrap();
     if derived.is_some_and(|numbers| numbers.map(i64::from) != [l, p, b, p1]) { 10 } else { 0 }
+}
+
+/// The places of a tuple's walk in plain Rust: d steps of a among the W LT symbols, and of the steps of a1 modulo P1 the first d1 that end below P.
+pub fn walk(row: Row, tuple: Tuple) -> Vec<u32> {
+    let ([_, _, _, _, w, _, p, _, p1], Tuple { d, a, b, d1, a1, b1 }) = (row.numbers(), tuple);
+    let lt = (0..d).map(|i| (b + i * a) % w);
+    let pi = (0..p1).map(|i| (b1 + i * a1) % p1).filter(|place| *place < p).take(d1 as usize);
+    lt.chain(pi.map(|place| w + place)).collect()
+}
+
+/// Tables of which every random number ends in twenty ones: each degree is the largest that W allows, and each draw of d1 is a 3. All else is as published.
+pub fn long_walks() -> Vec<u32> {
+    Tables::published().numbers().iter().enumerate().map(|(at, number)| number >> 20 << 20 | if at < 256 { 0xF_FFFF } else { 0 }).collect()
 }
 
 /// An ESI and its symbol.
