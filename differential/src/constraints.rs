@@ -10,6 +10,8 @@ use raptorq_lent::rng::lent as tables_lent;
 use raptorq_lent::systematic_constants::lent as row_lent;
 
 const BROKEN_ROW: &str = "D24 (a row that breaks its rules)";
+const WRITTEN: &str = "walks of 33 places written";
+const NO_ROOM: &str = "walks of 33 places refused for room";
 
 /// What the crate asserts of a tuple.
 fn asserted([d, a, b, d1, a1, b1]: [u32; 6], w: u32, p1: u32) -> bool {
@@ -50,10 +52,18 @@ fn walks(report: &mut Report, random: &mut Random) {
     let [p, p1] = numbers.unwrap_or([0, 2]);
     let tuple = any_tuple(random, w, p1);
     let [d, a, b, d1, a1, b1] = tuple;
-    let room = random.room((d + d1) as usize);
+    let n = (d + d1) as usize;
+    // One place too few tells most.
+    let room = if n > 0 && random.below(16) == 0 { n - 1 } else { random.room(n) };
     let ours = walk(row, tuple, room);
     let said = || format!("walk of {tuple:?} in {row:?}, room {room}");
-    let refused = report.due(refusal(&[rows::reason(part(row)), (2, !in_bounds(tuple, w, p1)), (8, room < (d + d1) as usize)]));
+    let refused = report.due(refusal(&[rows::reason(part(row)), (2, !in_bounds(tuple, w, p1)), (8, room < n)]));
+    // A tuple of the caller's own may have 33 places, which that of no ISI has.
+    match refused {
+        None if n == 33 => report.kind(WRITTEN),
+        Some(8) if n == 33 => report.kind(NO_ROOM),
+        _ => (),
+    }
     // With P = 0 the crate's walk would not end; its closure needs no room.
     if numbers.is_none() || p == 0 || refused == Some(8) {
         return report.refusal(refused.is_some() && ours.err() == refused, said);
@@ -66,6 +76,23 @@ fn walks(report: &mut Report, random: &mut Random) {
         Some(n) if asserted(tuple, w, p1) => report.listed("D26 (a degree above its bounds)", ours == Err(n) && given.as_ref().is_some_and(right), said),
         Some(n) => report.listed("D25 (a tuple that the crate asserts against)", ours == Err(n) && given.is_none(), said),
         None => report.equal(given.is_some() && ours.ok() == given, said),
+    }
+}
+
+/// Tuples of 33 places, d = 30 and d1 = 3: in the row of the least W that takes them, 37, and in published ones the crate's closure is given the same 33. With
+/// room for 32 none is written.
+fn of_33_places(report: &mut Report) {
+    let published = rows::published();
+    for row in [[30, 254, 7, 10, 37], published[4], published[100], published[476]] {
+        let (w, [_, p, _, p1]) = (row[4], sizes(row).expect("an accepted row"));
+        for [a, b, a1, b1] in [[1, 0, 1, p - 1], [w - 1, 3, p1 - 1, 1], [w / 2, w - 1, p1 / 2, p1 - 1]] {
+            let mut places = vec![];
+            enc_indices((30, a, b, 3, a1, b1), w, p, p1, |j| places.push(j as u32));
+            let ours = |room| walk(row, [30, a, b, 3, a1, b1], room);
+            let said = || format!("33 places of {:?} in {row:?}", [a, b, a1, b1]);
+            report.equal(places.len() == 33 && [33, 34].iter().all(|room| ours(*room).as_ref() == Ok(&places)), said);
+            report.refusal(ours(32) == Err(8), said);
+        }
     }
 }
 
@@ -166,7 +193,7 @@ fn published(report: &mut Report, random: &mut Random) {
 }
 
 fn made_up(report: &mut Report, random: &mut Random) {
-    let tables = rows::any_tables(random);
+    let tables = rows::any_or_long_tables(random);
     let row = rows::accepted(random);
     hdpc(report, random, row, &tables);
     let n = (row[0] + random.below(u64::from(row[3]) + 5) as u32).saturating_sub(random.below(3) as u32);
@@ -186,6 +213,7 @@ pub fn run(count: u64, seed: u64) -> Found {
     for _ in 0..count / 2 {
         walks(&mut report, &mut random);
     }
+    of_33_places(&mut report);
     published(&mut report, &mut random);
     for _ in 0..count / 500 {
         made_up(&mut report, &mut random);
@@ -194,5 +222,7 @@ pub fn run(count: u64, seed: u64) -> Found {
     tables_lent::lend(None);
     records::tried(&mut report, &mut random, count / 500, &records::CONSTRAINTS, 40);
     report.met(1..=10, 1000, count);
+    report.met_kinds([WRITTEN], 5000, count);
+    report.met_kinds([NO_ROOM], 500, count);
     report.close()
 }

@@ -9,6 +9,10 @@ use raptorq_lent::base::{self, PayloadId};
 use raptorq_lent::constraint_matrix::enc_indices;
 use raptorq_lent::rng;
 
+const LONGEST: &str = "walks of 32 places";
+const THREE: &str = "walks with d1 = 3";
+const OTHERS: &str = "other walks";
+
 /// The intermediate symbols of the crate's tuple and walk; None where its rand overflows.
 fn walked(row: Row, x: u32) -> Option<Vec<u32>> {
     let [_, p, _, p1] = sizes(row)?;
@@ -24,6 +28,18 @@ fn walked_here(row: Row, tables: &[u32], x: u32) -> Vec<u32> {
     rows::walk(rows::tuple(row, p1, tables, x), row[4], p, p1)
 }
 
+/// Counts the walk of an ISI, and tells whether it has at most 32 places, which is all that the encoding of a symbol has room for: d1, the number of its PI
+/// symbols, is 3 only where d is below 4.
+fn fits(report: &mut Report, row: Row, places: &[u32]) -> bool {
+    let d1 = places.iter().filter(|j| **j >= row[4]).count();
+    report.kind(match (places.len(), d1) {
+        (32, _) => LONGEST,
+        (_, 3) => THREE,
+        _ => OTHERS,
+    });
+    places.len() <= 32 && (d1 == 2 || d1 == 3 && places.len() < 7)
+}
+
 /// These intermediate symbols of t octets, added up.
 fn sum(places: &[u32], t: usize, intermediates: &[u8]) -> Vec<u8> {
     let mut symbol = vec![0; t];
@@ -32,7 +48,7 @@ fn sum(places: &[u32], t: usize, intermediates: &[u8]) -> Vec<u8> {
 }
 
 fn made_up(report: &mut Report, random: &mut Random) {
-    let tables = rows::any_tables(random);
+    let tables = rows::any_or_long_tables(random);
     rng::lent::lend(Some(tables.clone()));
     let row = if random.below(4) == 0 { rows::made_up(random) } else { rows::accepted(random) };
     let t = random.below(40) as u16;
@@ -67,10 +83,11 @@ fn encode(report: &mut Report, random: &mut Random, (row, tables): (Row, &[u32])
         Some(n) => report.refusal(lent.refused(n), said),
         None => {
             let x = rows::shifted(row, count, esi);
-            match walked(row, x) {
-                Some(places) => report.equal(lent.holds(&sum(&places, t.into(), intermediates)), said),
-                None => report.listed("D11 (rand overflows)", lent.holds(&sum(&walked_here(row, tables, x), t.into(), intermediates)), said),
-            }
+            let given = walked(row, x);
+            let overflows = given.is_none();
+            let places = given.unwrap_or_else(|| walked_here(row, tables, x));
+            let same = fits(report, row, &places) && lent.holds(&sum(&places, t.into(), intermediates));
+            if overflows { report.listed("D11 (rand overflows)", same, said) } else { report.equal(same, said) }
         }
     }
 }
@@ -87,8 +104,10 @@ fn real(report: &mut Report, random: &mut Random) {
     let intermediates: Vec<u8> = (0..slab.len()).flat_map(|i| slab.get(i).to_vec()).collect();
     for packet in encoder.source_packets().into_iter().chain(encoder.repair_packets(0, 20)) {
         let (id, symbol) = packet.split();
-        let lent = Lent::to(vec![0; 16], |out| archive::encode(rows::record(row), &tables, k, t, id.encoding_symbol_id(), &intermediates, out));
-        report.equal(lent.holds(&symbol), || format!("symbol {} of a block of {k}", id.encoding_symbol_id()));
+        let esi = id.encoding_symbol_id();
+        let lent = Lent::to(vec![0; 16], |out| archive::encode(rows::record(row), &tables, k, t, esi, &intermediates, out));
+        let short = walked(row, rows::shifted(row, k, esi)).is_some_and(|places| fits(report, row, &places));
+        report.equal(short && lent.holds(&symbol), || format!("symbol {esi} of a block of {k}"));
     }
     let last = (1 << 24) - k;
     let given = caught(|| encoder.repair_packets(last, 1));
@@ -122,5 +141,6 @@ pub fn run(count: u64, seed: u64) -> Found {
     refused_blocks(&mut report);
     records::tried(&mut report, &mut random, count / 500, &records::ENCODING, 477);
     report.met(1..=10, 1000, count);
+    report.met_kinds([LONGEST, THREE, OTHERS], 10_000, count);
     report.close()
 }

@@ -138,6 +138,15 @@ pub fn any_tables(random: &mut Random) -> Vec<u32> {
     (0..1024).map(|_| random.word() as u32).collect()
 }
 
+/// Such tables; one time in four every number that `rand` makes of them ends in twenty ones: each degree is the largest that W allows, and a draw of d1 is 3.
+pub fn any_or_long_tables(random: &mut Random) -> Vec<u32> {
+    let mut tables = any_tables(random);
+    if random.below(4) == 0 {
+        tables.iter_mut().enumerate().for_each(|(at, number)| *number = *number >> 20 << 20 | if at < 256 { 0xF_FFFF } else { 0 });
+    }
+    tables
+}
+
 /// The tables as they are most times, sometimes of another length.
 pub fn lent_tables<'a>(random: &mut Random, tables: &'a [u32]) -> Cow<'a, [u32]> {
     if random.below(16) != 0 {
