@@ -28,7 +28,7 @@ chosen false n f = sum-zero n (λ k h. refl)
 
 module _ (w p p1 : ℕ) (t : Tuple) (s : Walks w p p1) (b : Bounds w p1 t) {old list : List ℕ} (l : Laid (places w p p1 t) old list 0) where
   held : (k : ℕ) → k < t .d + t .d1 → getD list k 0 ≡ getD (places w p p1 t) k 0
-  held = walk-held w p p1 t s b l
+  held = walk-held w p p1 t l
 
   pub place-lt : (k : ℕ) → k < t .d + t .d1 → getD list k 0 < w + p
   place-lt k h = subst (λ (n : ℕ). n < w + p) (sym (held k h)) (places-lt w p p1 t s b k (omega (arith, places-length w p p1 t)))

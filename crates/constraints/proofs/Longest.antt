@@ -3,7 +3,7 @@
 -- Assumes nothing.
 use mathlib.Core.Path.{_≡_, refl, _∙_, subst}
 use mathlib.Core.List.{List, _++_}
-use Prim.Native.Nat.{ℕ, _+_, _-_, _<_, _≤_}
+use Prim.Native.Nat.{ℕ, _+_, _<_, _≤_}
 use native.Mathlib.Omega.{arith}
 use borrow.Author.Tests.{le-ltb}
 use lib.ListN.{length, replicate}
@@ -45,7 +45,7 @@ thirty-two-met = (refl, refl, places-count wide (tupleIn highest wide 0))
 
 -- ---- a caller's own tuple
 
--- within its bounds, and with room for its walk, it is refused by nothing
+-- in an accepted row, within its bounds and with room for its walk, it is refused by nothing
 pub walked-done : {r : Row} {t : Tuple} {xs ys : List ℕ} {a : Number} → Obeys r → Bounds (r .w) (p1Of r) t → t .d + t .d1 ≤ length xs
     → Walked r t xs ys a → numberOutcome a ≡ given (t .d + t .d1)
 walked-done {r} {t} {xs} o b room u =

@@ -83,16 +83,16 @@ module _ {list xs : List ℕ} {at n l : ℕ} (m : Markable list xs at n l) where
   marked-all {ys} w e = subst (λ (j : ℕ). Written (λ c. sum j (λ k. unit c (getD list k 0))) xs ys at l) e w
 
 -- a list in which a walk was laid holds its places
-pub walk-held : (w p p1 : ℕ) (t : Tuple) → Walks w p p1 → Bounds w p1 t → {old list : List ℕ} → Laid (places w p p1 t) old list 0 → (k : ℕ) → k < t .d + t .d1
+pub walk-held : (w p p1 : ℕ) (t : Tuple) {old list : List ℕ} → Laid (places w p p1 t) old list 0 → (k : ℕ) → k < t .d + t .d1
     → getD list k 0 ≡ getD (places w p p1 t) k 0
-walk-held w p p1 t s b {list = list} walked k h = ap (λ (i : ℕ). getD list i 0) (sym (zero-add k)) ∙ walked .part k (omega (arith, places-length w p p1 t))
+walk-held w p p1 t {list = list} walked k h = ap (λ (i : ℕ). getD list i 0) (sym (zero-add k)) ∙ walked .part k (omega (arith, places-length w p p1 t))
 
 -- ---- a run that is cleared, and then has the places of a tuple set
 
 module _ (w p p1 : ℕ) (t : Tuple) (s : Walks w p p1) (b : Bounds w p1 t) {l : ℕ} (e : l ≡ w + p) {old list xs ys : List ℕ} {at : ℕ}
     (walked : Laid (places w p p1 t) old list 0) (clear : Written (λ k. 0) xs ys at l) (room : at + l ≤ length xs) where
   held : (k : ℕ) → k < t .d + t .d1 → getD list k 0 ≡ getD (places w p p1 t) k 0
-  held = walk-held w p p1 t s b walked
+  held = walk-held w p p1 t walked
 
   pub markable : t .d + t .d1 ≤ length list → Markable list ys at (t .d + t .d1) l
   markable r =

@@ -23,6 +23,7 @@ use Rattle.constraints.specs.Encoding.{visits}
 use Rattle.constraints.specs.Walk.{Walks, places}
 use Rattle.constraints.proofs.Distinct.{places-lt}
 use Rattle.constraints.proofs.Lists.{places-length}
+use Rattle.constraints.proofs.Marks.{walk-held}
 use Rattle.linear.specs.Bytes.{cell}
 use Rattle.encoding.specs.Encoded.{Addable, walked, symbolAdded, symbolsAdded}
 
@@ -84,7 +85,7 @@ enough-added t d C ps {ys} w e = subst (λ (j : ℕ). Written (symbolsAdded t d 
 module _ (w p p1 : ℕ) (z : Tuple) (s : Walks w p p1) (b : Bounds w p1 z) (t : ℕ) (C : List ℕ) {old list xs ys : List ℕ} (laid : Laid (places w p p1 z) old list 0)
     (clear : Written (λ k. 0) xs ys 0 t) where
   held : (k : ℕ) → k < z .d + z .d1 → getD list k 0 ≡ getD (places w p p1 z) k 0
-  held k h = ap (λ (i : ℕ). getD list i 0) (sym (zero-add k)) ∙ laid .part k (omega (arith, places-length w p p1 z))
+  held = walk-held w p p1 z laid
 
   pub addable : {n : ℕ} → n ≤ z .d + z .d1 → z .d + z .d1 ≤ length list → t ≤ length xs → (w + p) * t ≤ length C → Addable t ys C list n
   addable {n} some r room enough =

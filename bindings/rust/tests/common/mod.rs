@@ -67,7 +67,7 @@ pub fn walk(row: Row, tuple: Tuple) -> Vec<u32> {
     lt.chain(pi.map(|place| w + place)).collect()
 }
 
-/// Tables of which every random number ends in twenty ones: each degree is the largest that W allows, and each draw of d1 is a 3. All else is as published.
+/// Tables of which every random number ends in twenty ones: each degree is the largest that W allows, and each draw of d1 is a 3. The upper 12 bits are as published.
 pub fn long_walks() -> Vec<u32> {
     Tables::published().numbers().iter().enumerate().map(|(at, number)| number >> 20 << 20 | if at < 256 { 0xF_FFFF } else { 0 }).collect()
 }

@@ -31,7 +31,7 @@ fn add_symbols(out: &mut [u8], t: usize, intermediates: &[u8], list: &[u32], n: 
     }
 }
 
-// The symbol of a tuple whose walk is no longer than the working list: every tuple of the generator (`degrees-high`).
+// The symbol of a tuple whose walk is no longer than the working list, as that of every tuple of the generator is (`degrees-high`).
 pub fn enc(out: &mut [u8], t: usize, intermediates: &[u8], tuple: Tuple, w: u32, p: u32, p1: u32)
     requires { ⌜ Walks w p p1 × Bounds w p1 tuple × (tuple .d + tuple .d1 ≤ 32) × (t ≤ length (now out)) × ((w + p) * t ≤ length (now intermediates)) ⌝ }
     ensures { λ _. ⌜ Written (walked t (now (intermediates .entry)) (w + p) (places w p p1 tuple)) (now (out .entry)) (now (out .exit)) 0 t ⌝ }
