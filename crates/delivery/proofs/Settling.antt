@@ -32,7 +32,7 @@ use Rattle.elimination.specs.declared.verdict.Verdict.{Verdict}
 use Rattle.solver.specs.declared.solver.Solution.{Solution}
 use Rattle.solver.specs.declared.solver.Solution.TheVariants as Solutions
 use Rattle.intake.specs.Night.{Admitted, Asks, Begins, Holding, Named, Stretch, Takes, arrived, askable, beginnable, fresh, takable}
-use Rattle.intake.specs.State.{Begun, k_in, l_in, row_in as State·rowIn, t_in, tables_in}
+use Rattle.intake.specs.State.{Begun, k_in, l_in, row_in as State·row_in, t_in, tables_in}
 use Rattle.intake.proofs.Calls.{question-passed}
 use Rattle.delivery.specs.Layout.{row_in, entry_at, tables_of, f_of, k_of, t_of, n_of, count_of, left_of}
 use Rattle.delivery.specs.Layout.{is_own, esis_in, symbols_in, others_in, packet_of, passed_of, esi_of, symbol_of}
@@ -234,7 +234,7 @@ passed_is d {t} {n} {i} {o} et en ei eo =
 
 -- a question leaves the row, K and T in the state as they were
 module _ {f : ℕ → ℕ} (st st₁ : List ℕ) (w : Written f st st₁ 11 2) where
-  row_stays : State·rowIn st₁ ≡ State·rowIn st
+  row_stays : State·row_in st₁ ≡ State·row_in st
   row_stays = rw (
     w.low 0 (omega arith),
     w.low 1 (omega arith),
@@ -273,7 +273,7 @@ module _ (st ps a d o st₁ ps₁ a₁ d₁ o₁ : List ℕ) (m : ℕ) where
         room = omega arith;
       }
 
-pub rebuildable : (st C xs : List ℕ) {r : Row} {l : ℕ} → r ≡ State·rowIn st → l ≡ l_in st * t_in st → Restorable st (length C) (length xs)
+pub rebuildable : (st C xs : List ℕ) {r : Row} {l : ℕ} → r ≡ State·row_in st → l ≡ l_in st * t_in st → Restorable st (length C) (length xs)
     → Rebuildable r (tables_in st) (k_in st) (t_in st) (take l C) xs
 rebuildable st C xs {r} {l} er el m =
     let block : k_in st * t_in st ≤ l_in st * t_in st = mul-le-mul_right (t_in st) (omega (arith, m.k-high)) in
@@ -289,16 +289,16 @@ rebuildable st C xs {r} {l} er el m =
     })
 
 -- what was rebuilt by the numbers that were read from the state
-pub restored : (st : List ℕ) {r : Row} {l : ℕ} (C xs ys : List ℕ) (v : Verdict) → r ≡ State·rowIn st → l ≡ l_in st * t_in st
+pub restored : (st : List ℕ) {r : Row} {l : ℕ} (C xs ys : List ℕ) (v : Verdict) → r ≡ State·row_in st → l ≡ l_in st * t_in st
     → Leaves (tables_in st) r (k_in st) (t_in st) (take l C) xs ys v
-    → Leaves (tables_in st) (State·rowIn st) (k_in st) (t_in st) (take (l_in st * t_in st) C) xs ys v
+    → Leaves (tables_in st) (State·row_in st) (k_in st) (t_in st) (take (l_in st * t_in st) C) xs ys v
 restored st {r} {l} C xs ys v er el u =
-    subst (λ (m : ℕ). Leaves (tables_in st) (State·rowIn st) (k_in st) (t_in st) (take m C) xs ys v) el
+    subst (λ (m : ℕ). Leaves (tables_in st) (State·row_in st) (k_in st) (t_in st) (take m C) xs ys v) el
     (subst (λ (q : Row). Leaves (tables_in st) q (k_in st) (t_in st) (take l C) xs ys v) er u)
 
 -- what the state names is what is held
 leaves-named : (z : Stretch) (st C xs ys : List ℕ) (v : Verdict) → Named z st
-    → Leaves (tables_in st) (State·rowIn st) (k_in st) (t_in st) (take (l_in st * t_in st) C) xs ys v
+    → Leaves (tables_in st) (State·row_in st) (k_in st) (t_in st) (take (l_in st * t_in st) C) xs ys v
     → Leaves z.tables z.row z.k z.t (take (l_of z.row * z.t) C) xs ys v
 leaves-named z st C xs ys v n l =
     let l1 = subst (λ (q : Row). Leaves (tables_in st) q (k_in st) (t_in st) (take (l_of q * t_in st) C) xs ys v) n.row l in
@@ -308,7 +308,7 @@ leaves-named z st C xs ys v n l =
 
 pub concluded : (st ps a d o st₁ ps₁ a₁ d₁ o₁ : List ℕ) (f : ℕ) (p : Passed) (xs ys : List ℕ) (x : Solution) (v : Verdict) → x ≡ Solutions.Given v
     → Asks st ps a d o st₁ ps₁ a₁ d₁ o₁ x
-    → Leaves (tables_in st₁) (State·rowIn st₁) (k_in st₁) (t_in st₁) (take (l_in st₁ * t_in st₁) o₁) xs ys v
+    → Leaves (tables_in st₁) (State·row_in st₁) (k_in st₁) (t_in st₁) (take (l_in st₁ * t_in st₁) o₁) xs ys v
     → ConcludesHeld st ps a d f p xs ys (Taken v f p)
 concluded st ps a d o st₁ ps₁ a₁ d₁ o₁ f p xs ys x v e u l z h =
     let w = subst (Asks st ps a d o st₁ ps₁ a₁ d₁ o₁) e u in

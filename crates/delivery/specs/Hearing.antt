@@ -5,7 +5,7 @@ use Rattle.field.specs.Answer.{given, refused}
 use Rattle.field.specs.Choice.{pick}
 use Rattle.headers.specs.Row.{Obeys}
 use Rattle.intake.specs.Night.{Holding, Stretch, arrived}
-use Rattle.intake.specs.State.{k_in, l_in, row_in as State·rowIn, t_in}
+use Rattle.intake.specs.State.{k_in, l_in, row_in as State·row_in, t_in}
 use Rattle.delivery.specs.Layout.{row_in, tables_of, f_of, k_of, t_of, n_of, esi_of, symbol_of, is_own, esis_in, symbols_in}
 use Rattle.delivery.specs.Screen.{screen, stop_of}
 use Rattle.delivery.specs.Received.{Concludes}
@@ -57,8 +57,8 @@ OpenedSmall (Openeds.Stopped why) = Unit {0}
 -- what rebuilding asks of the state, of a store for the set and of one for the block
 pub record Restorable (st : List ℕ) (set out : ℕ) : Type 0 where
   pub size : 1037 ≤ length st
-  pub rules : Obeys (State·rowIn st)
-  pub k-high : k_in st ≤ (State·rowIn st).kp
+  pub rules : Obeys (State·row_in st)
+  pub k-high : k_in st ≤ (State·row_in st).kp
   pub t-low : 0 < t_in st
   pub t-high : t_in st ≤ 65535
   pub symbols : l_in st * t_in st ≤ set

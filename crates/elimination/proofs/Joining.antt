@@ -20,7 +20,7 @@ use Rattle.linear.specs.Index.{Col}
 use Rattle.linear.specs.Span.{InSpan, Within}
 use Rattle.linear.specs.System.{System, equation}
 use Rattle.linear.specs.Octets.{octets, Octet, oct}
-use Rattle.linear.specs.Bytes.{Bytes, cell, symbols, stored_system, in_octets}
+use Rattle.linear.specs.Bytes.{Bytes, cell, stored_system, in_octets}
 use Rattle.linear.specs.Rows.{RowAdded, RowTimes, RowCopied, behind}
 use Rattle.linear.specs.Elimination.{Holds, Stepped}
 use Rattle.linear.proofs.Span.{span-member, span-zero, span-eq, within-trans}

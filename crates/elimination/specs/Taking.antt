@@ -5,7 +5,7 @@ use Rattle.std.specs.Prelude.{◌≡◌, ◌≢◌, List, ℕ, ◌+◌, ◌-◌,
 use Rattle.field.specs.Octet.{plus, times}
 use Rattle.field.specs.Runs.{FirstOther, Written}
 use Rattle.linear.specs.System.{System}
-use Rattle.linear.specs.Bytes.{Bytes, cell, symbols, ContradictionBytes}
+use Rattle.linear.specs.Bytes.{Bytes, cell, ContradictionBytes}
 use Rattle.linear.specs.Rows.{behind}
 use Rattle.linear.specs.Elimination.{Holds, Keeps, Stepped}
 use Rattle.elimination.specs.Steps.{column}

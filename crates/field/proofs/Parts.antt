@@ -122,7 +122,7 @@ module _ {f g : ℕ → ℕ} {xs ys zs : List ℕ} {at n m : ℕ} (w : Written f
           let j : n + (k - n) ≡ k = omega arith in
           ap (λ (x : ℕ). get_or zs x 0) i ∙ u.part (k - n) (omega arith) ∙ e (k - n) (omega arith) ∙ ap f j
 
--- the first n bytes of what `bytes::copy` left are the part that it copied
+-- the first n bytes of a list that begins with a copy of a part are that part
 pub copied : (xs old new : List ℕ) (from n : ℕ) → from + n ≤ length xs
     → new ≡ take (length (take (from + n - from) (drop from xs))) (take (from + n - from) (drop from xs)) ++ drop (length (take (from + n - from) (drop from xs))) old
     → take n new ≡ take n (drop from xs)

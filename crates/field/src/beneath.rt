@@ -1,2 +1,3 @@
 // What the layers above call under known conditions: each function here may ask something of its caller.
 pub mod runs;
+pub mod tables;

@@ -11,7 +11,7 @@ use crate::doubling;
 use crate::refusal::Refusal;
 
 // What a call that may refuse answers.
-#[derive(Drop)]
+#[derive(Clone, Copy)]
 pub enum Answer {
     Octet(u8),
     Refused(Refusal),

@@ -3,7 +3,7 @@ ghost use Rattle.std.specs.Prelude.{◌≡◌};
 ghost use Rattle.field.specs.Answer.{code_of, number_of, part_of, place_of};
 
 // The first rule that a parameter row breaks, in document 01's order: a number of 65,536 or more, K', S, H, W, B, P, ceil(B/S), L, and the derived numbers.
-#[derive(Drop)]
+#[derive(Clone, Copy)]
 pub enum Part {
     Wide,
     Kp,
@@ -17,7 +17,7 @@ pub enum Part {
     Derived,
 }
 
-#[derive(Drop)]
+#[derive(Clone, Copy)]
 pub enum Refusal {
     DivisorZero,
     OutOfRange,
@@ -33,7 +33,7 @@ pub enum Refusal {
 }
 
 // What a call answers that has nothing to tell but that it was done.
-#[derive(Drop)]
+#[derive(Clone, Copy)]
 pub enum Answer {
     Done,
     Refused(Refusal),

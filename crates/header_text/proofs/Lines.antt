@@ -1,22 +1,18 @@
--- Lines follow each other, and `io`'s digits are those of the definition.
+-- Lines follow each other, and the digits of std are those of the definition.
 -- Assumes nothing.
-use mathlib.Core.Path.{◌≡◌, refl, sym, ap, ap₂, ◌∙◌, subst}
-use mathlib.Core.List.{List, [], ◌∷◌, ◌++◌, append_assoc}
-use Prim.Native.Nat.{ℕ, zero, suc, ◌+◌, ◌-◌, ◌*◌, ◌/◌, ◌%◌, ◌^◌, ◌≤◌, ◌<◌, min}
-use native.Mathlib.Nat.{pow-le-pow_right, pow-suc, one-le-pow, mod-eq_of_lt, div-lt_iff_lt-mul, le-div_iff_mul-le}
-use native.Mathlib.Numerals.{unary_clauses}
-use native.Mathlib.Omega.{arith}
-use borrow.Author.Tests.{lt-ltb, le-ltb, eq-eqb, ne_eqb}
+use Rattle.std.proofs.Common.{◌≡◌, ℕ, ◌+◌, ◌^◌, ◌<◌, ◌≤◌, min, List, [], ◌∷◌, ◌++◌, length, take, drop, sym, refl, ap, ap₂, ◌∙◌, subst, arith, append_assoc, length-append, length-take-le, length-drop, lt-ltb, le-ltb, eq-eqb}
 use native.Mathlib.Decide.{dec_lt, ℕ_discrete}
-use lib.ListN.{length, take, drop, length-append, length-take, length-drop, drop_of_length-le}
-use lib.Seq.{take_all, length-take-le}
-use Rattle.io.specs.Counts.{IsPrefixLen}
-use Rattle.io.specs.Digits.{last_digits, hex_digit_ascii, IsDigitCount}
+use borrow.Author.Tests.{ne_eqb}
+use lib.ListN.{length-take, drop_of_length-le}
+use lib.Seq.{take_all}
+use Rattle.std.specs.Fmt.{decimal}
+use Rattle.std.proofs.lemmas.Fmt.{AppendsLastDigit, decimal_from_appends, length-decimal-le}
 use Rattle.field.specs.Answer.{Outcome}
 use Rattle.headers.specs.Bytes.{Laid}
 use Rattle.headers.specs.Headers.{read_id, read_info}
 use Rattle.headers.specs.declared.transmission.ObjectTransmissionInformation.{ObjectTransmissionInformation}
 use Rattle.headers.proofs.Bytes.{laid-append}
+use Rattle.header_text.specs.Counts.{IsPrefixLen}
 use Rattle.header_text.specs.Text.{Lined, line, spelled, refused_line, told, text_of}
 
 module _ (bs cs : List ℕ) {m n : ℕ} {xs ys zs : List ℕ} {at to next : ℕ} where
@@ -28,38 +24,17 @@ module _ (bs cs : List ℕ) {m n : ℕ} {xs ys zs : List ℕ} {at to next : ℕ}
         short = omega (arith, u.short, w.short, length-append bs cs);
       }
 
-glyph-digit : (d : ℕ) → d < 10 → hex_digit_ascii d ≡ 48 + d
-glyph-digit d h = rw (lt-ltb d 10 h)
-
-pub spelled-fewest : (n k x : ℕ) → IsDigitCount 10 1 x k → k ≤ n → last_digits 10 k x ≡ spelled n x
+spelled-appends : AppendsLastDigit spelled
 unfolding spelled
-spelled-fewest zero k x f h = absurd (omega (arith, f.0))
-spelled-fewest (suc n) k x f h = go k f h (spelled-fewest n)
-  where
-    go : (k : ℕ) → IsDigitCount 10 1 x k → k ≤ suc n → ((j y : ℕ) → IsDigitCount 10 1 y j → j ≤ n → last_digits 10 j y ≡ spelled n y)
-        → last_digits 10 k x ≡ spelled (suc n) x
-    go zero f h r = absurd (omega (arith, f.0))
-    go (suc zero) f h r =
-        let l : x < 10 = f.1 in
-        rw (mod-eq_of_lt l, lt-ltb x 10 l)
-    go (suc (suc k)) f h r =
-        let p : 10 ^ k * 10 ≤ x = simp unary_clauses at (f.2 (omega arith)) in
-        let q : x < 10 ^ suc k * 10 = subst (λ (y : ℕ). x < y) (pow-suc 10 (suc k)) f.1 in
-        let t : 0 < 10 = omega arith in
-        let b : x / 10 < 10 ^ suc k = (div-lt_iff_lt-mul t).1 q in
-        let d : 10 ^ k ≤ x / 10 = (le-div_iff_mul-le t).1 p in
-        rw (le-ltb x 10 (omega (arith, one-le-pow k 10 t)))
-        (ap₂ (λ (ys : List ℕ) (y : ℕ). ys ++ (y ∷ [])) (r (suc k) (x / 10) (omega arith, b, λ _. simp unary_clauses d) (omega arith)) (glyph-digit (x % 10) (omega arith)))
+spelled-appends = record { one = λ k n h. rw (lt-ltb n 10 h); more = λ k n h. rw (le-ltb n 10 h) }
 
 -- 64 bits take at most 20 digits
-pub fewest-20 : (k x : ℕ) → IsDigitCount 10 1 x k → x < 2 ^ 64 → k ≤ 20
-fewest-20 k x f h = go (dec_lt 20 k)
-  where
-    go : Dec (20 < k) → k ≤ 20
-    go (yes l) =
-        let m : 20 ≤ k - 1 = omega arith in
-        absurd (omega (arith, f.2 (omega arith), pow-le-pow_right {n = 10} (omega arith) m))
-    go (no l) = omega arith
+pub decimal-short : (x : ℕ) → x < 2 ^ 64 → length (decimal x) ≤ 20
+decimal-short x h = length-decimal-le 20 x (omega arith) (omega arith) h
+
+-- and std's are those of the definition
+pub decimal-spelled : (x : ℕ) → x < 2 ^ 64 → decimal x ≡ spelled 20 x
+decimal-spelled x h = sym (decimal_from_appends spelled spelled-appends 20 x h (decimal-short x h))
 
 -- another name for the text
 pub lined-is : {bs cs : List ℕ} {m : ℕ} {xs ys : List ℕ} {at to : ℕ} → Lined bs m xs ys at to → bs ≡ cs → Lined cs m xs ys at to
@@ -74,18 +49,15 @@ module _ (ws cs bs : List ℕ) {m n : ℕ} {xs ys zs : List ℕ} {at to next : �
   pub lined_on : Lined (ws ++ cs) m xs ys at to → Lined bs n ys zs to next → Lined (ws ++ (cs ++ bs)) (m + n) xs zs at next
   lined_on u w = lined-is (lined-append (ws ++ cs) bs u w) (append_assoc ws cs bs)
 
--- a label, and the digits that `io` spelled
-module _ (label ds : List ℕ) (x k : ℕ) {xs ys zs : List ℕ} {at : ℕ} where
-  pub numbered-laid : x < 2 ^ 64 → IsDigitCount 10 1 x k → take k ds ≡ last_digits 10 k x → k ≡ length (take k ds) → Laid label xs ys at
-      → Laid (take k ds) ys zs (at + length label)
-      → Lined (label ++ spelled 20 x) (length label + 20) xs zs at (at + length label + k)
-  numbered-laid h f e n u v =
-      let b : k ≤ 20 = fewest-20 k x f h in
-      let q : take k ds ≡ spelled 20 x = e ∙ spelled-fewest 20 k x f b in
-      let l : k ≡ length (spelled 20 x) = n ∙ ap length q in
-      let v₁ : Laid (spelled 20 x) ys zs (at + length label) = subst (λ (bs : List ℕ). Laid bs ys zs (at + length label)) q v in
-      let r : length (label ++ spelled 20 x) ≡ length label + length (spelled 20 x) = length-append label (spelled 20 x) in
-      record { laid = laid-append label (spelled 20 x) u refl v₁; ends = omega (arith, r, l); short = omega (arith, r, l) }
+-- a label, and the digits of a number
+module _ (label : List ℕ) {ds : List ℕ} (x : ℕ) {xs ys zs : List ℕ} {at : ℕ} where
+  pub numbered-laid : ds ≡ decimal x → x < 2 ^ 64 → Laid label xs ys at → Laid ds ys zs (at + length label)
+      → Lined (label ++ spelled 20 x) (length label + 20) xs zs at (at + length label + length ds)
+  numbered-laid e h u v =
+      let l : length (label ++ ds) ≡ length label + length ds = length-append label ds in
+      let k : length ds ≤ 20 = omega (arith, ap length e, decimal-short x h) in
+      lined-is (record { laid = laid-append label ds u refl v; ends = omega (arith, l); short = omega (arith, l, k) })
+      (ap (λ (cs : List ℕ). label ++ cs) (e ∙ decimal-spelled x h))
 
 -- and with a line feed
 module _ (label : List ℕ) (x : ℕ) {xs ys zs : List ℕ} {at to : ℕ} where

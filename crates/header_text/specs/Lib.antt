@@ -1,2 +1,3 @@
 -- What the contracts of `header_text` cite.
+pub mod Counts
 pub mod Text

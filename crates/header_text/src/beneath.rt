@@ -2,8 +2,8 @@
 // label, at most 20 digits and a line feed.
 ghost use Rattle.std.specs.Prelude.{◌≡◌, ◌++◌, ◌+◌, ◌≤◌, min, length};
 ghost use Rattle.field.specs.Answer.{code_of, done, given, number_in};
-ghost use Rattle.io.specs.Counts.{IsPrefixLen};
 ghost use Rattle.headers.specs.Headers.{read_id};
+ghost use Rattle.header_text.specs.Counts.{IsPrefixLen};
 ghost use Rattle.header_text.specs.Text.{Lined, id_lines, info_lines, line, refused_line, spelled, text_of, told, verdict_line};
 
 use field::refusal;
@@ -12,6 +12,7 @@ use headers::beneath::big_endian;
 use headers::payload_id::PayloadId;
 use headers::transmission::ObjectTransmissionInformation;
 use headers::{payload_id, transmission};
+use itoa::Buffer;
 
 pub fn text(input: &[u8], out: &mut [u8]) -> usize
     requires { 200 ≤ length out.old }
@@ -107,10 +108,10 @@ pub fn numbered(out: &mut [u8], at: usize, label: &[u8], x: u64) -> usize
     requires { at + (length label.now + 20) ≤ length out.old }
     ensures { Lined (label.now ++ spelled 20 x) (length label.now + 20) out.old out.new at result }
 {
-    let mut digits = [0u8; 20];
-    let k = io::decimal(x, &mut digits);
+    let mut buffer = Buffer::new();
+    let digits = buffer.format(x).as_bytes();
     big_endian::copy(out, at, label);
     let middle = at + label.len();
-    big_endian::copy(out, middle, &digits[..k]);
-    middle + k
+    big_endian::copy(out, middle, digits);
+    middle + digits.len()
 }

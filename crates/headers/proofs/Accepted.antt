@@ -1,6 +1,6 @@
 -- What the rules of a row imply, and what the answer of a check tells.
 -- Assumes nothing.
-use Rattle.std.proofs.Common.{◌≡◌, ℕ, ◌+◌, ◌-◌, ◌*◌, ◌%◌, ◌<◌, ◌≤◌, List, length, sym, refl, ap, subst, arith}
+use Rattle.std.proofs.Common.{◌≡◌, ℕ, ◌+◌, ◌*◌, ◌%◌, ◌<◌, ◌≤◌, List, length, sym, refl, ap, subst, arith}
 use native.Mathlib.Decide.{ℕ_discrete}
 use Rattle.field.specs.Answer.{Outcome, given, refused, before, code_of, place_of}
 use Rattle.field.specs.declared.refusal.Part.{Part}

@@ -1,7 +1,7 @@
 -- Transmission information: the check answers 3 exactly when a rule breaks, and object and symbols of what it accepts can be cut
 -- (document 01, 'Headers', as document 02, E3, amends it; RFC 6330, 4.4.1.2).
 -- Assumes nothing.
-use Rattle.std.proofs.Common.{◌≡◌, ℕ, ◌-◌, ◌*◌, ◌/◌, ◌%◌, ◌≤◌, Bool, true, false, not, ltb, List, [], ◌∷◌, get_or, sym, refl, ap, ◌∙◌, subst, mul-le-mul_right, mul-pos, one-mul, div-add-mod', le-div_iff_mul-le, arith, ne_eqb}
+use Rattle.std.proofs.Common.{◌≡◌, ℕ, ◌*◌, ◌/◌, ◌%◌, ◌≤◌, Bool, true, false, not, ltb, List, [], ◌∷◌, get_or, sym, refl, ap, ◌∙◌, subst, mul-le-mul_right, mul-pos, one-mul, div-add-mod', le-div_iff_mul-le, arith, ne_eqb}
 use Rattle.field.specs.Answer.{given, refused, unless}
 use Rattle.field.proofs.Answers.{given-not-refused, refused-only}
 use Rattle.field.proofs.Refusals.{passed}

@@ -1,6 +1,6 @@
 -- Primes, as a fact and as a test, and the smallest prime not below a number (P1 of RFC 6330 section 5.3.3.3).
 -- Assumes nothing.
-use Rattle.std.specs.Prelude.{◌≡◌, ℕ, zero, suc, ◌+◌, ◌-◌, ◌%◌, ◌<◌, ◌≤◌, Bool, true, not, ◌==◌, ◌≢◌, nat_le}
+use Rattle.std.specs.Prelude.{ℕ, zero, suc, ◌+◌, ◌-◌, ◌%◌, ◌<◌, ◌≤◌, Bool, true, not, ◌==◌, ◌≢◌, nat_le}
 use Rattle.field.specs.Choice.{pick, both}
 
 -- at least 2, and no number from 2 up to below it divides it

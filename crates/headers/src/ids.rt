@@ -8,13 +8,13 @@ use field::refusal::{Answer, Refusal};
 
 pub mod beneath;
 
-#[derive(Drop)]
+#[derive(Clone, Copy)]
 pub struct Esi(pub u32);
 
-#[derive(Drop)]
+#[derive(Clone, Copy)]
 pub struct Isi(u32);
 
-#[derive(Drop)]
+#[derive(Clone, Copy)]
 pub enum Shifted {
     Value(Isi),
     Refused(Refusal),

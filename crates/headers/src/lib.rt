@@ -1,4 +1,6 @@
 // What a receiver reads before it touches a symbol, each refusal exact, and the tuples of its symbols (base.rs of the crate, rand from the RFC).
+#![tactic(auto)]
+
 pub mod beneath;
 pub mod deg;
 pub mod ids;

@@ -9,19 +9,19 @@ use field::refusal;
 use field::refusal::Refusal;
 
 // Where the reading of a packet goes on.
-#[derive(Drop)]
+#[derive(Clone, Copy)]
 pub struct Cursor {
     pub at: usize,
 }
 
-#[derive(Drop)]
+#[derive(Clone, Copy)]
 pub enum Head {
     Id(PayloadId, Cursor),
     Refused(Refusal),
 }
 
 // The symbols' bytes are the `len` from `from` on: all that follow the id.
-#[derive(Drop)]
+#[derive(Clone, Copy)]
 pub enum Answer {
     Packet {
         payload_id: PayloadId,

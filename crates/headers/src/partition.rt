@@ -6,7 +6,7 @@ ghost use Rattle.headers.specs.Partition.{partition_outcome, partitioned};
 use crate::beneath::util;
 use field::refusal::Refusal;
 
-#[derive(Drop)]
+#[derive(Clone, Copy)]
 pub enum Answer {
     Parts { il: u32, is: u32, jl: u32, js: u32 },
     Refused(Refusal),

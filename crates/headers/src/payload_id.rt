@@ -7,13 +7,13 @@ use crate::beneath::front;
 use field::refusal;
 use field::refusal::Refusal;
 
-#[derive(Drop)]
+#[derive(Clone, Copy)]
 pub struct PayloadId {
     pub source_block_number: u8,
     pub encoding_symbol_id: u32,
 }
 
-#[derive(Drop)]
+#[derive(Clone, Copy)]
 pub enum Answer {
     Id(PayloadId),
     Refused(Refusal),

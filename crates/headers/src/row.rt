@@ -7,7 +7,7 @@ use crate::beneath::row::Derivation;
 use field::refusal::Refusal;
 
 // K', J, S, H and W, which the caller has, and L, P, B and P1, which follow from them.
-#[derive(Drop)]
+#[derive(Clone, Copy)]
 pub struct Row {
     pub kp: u32,
     pub j: u32,
@@ -20,7 +20,7 @@ pub struct Row {
     pub p1: u32,
 }
 
-#[derive(Drop)]
+#[derive(Clone, Copy)]
 pub enum Checked {
     Value(Row),
     Refused(Refusal),

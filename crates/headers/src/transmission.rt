@@ -10,7 +10,7 @@ use crate::beneath::{big_endian, util};
 use field::refusal;
 use field::refusal::Refusal;
 
-#[derive(Drop)]
+#[derive(Clone, Copy)]
 pub struct ObjectTransmissionInformation {
     pub transfer_length: u64,
     pub symbol_size: u16,
@@ -19,7 +19,7 @@ pub struct ObjectTransmissionInformation {
     pub symbol_alignment: u8,
 }
 
-#[derive(Drop)]
+#[derive(Clone, Copy)]
 pub enum Answer {
     Information(ObjectTransmissionInformation),
     Refused(Refusal),

@@ -9,7 +9,7 @@ use crate::ids::Isi;
 use crate::row::Row;
 use field::refusal::{Answer, Refusal};
 
-#[derive(Drop)]
+#[derive(Clone, Copy)]
 pub struct Tuple {
     pub d: u32,
     pub a: u32,
@@ -19,7 +19,7 @@ pub struct Tuple {
     pub b1: u32,
 }
 
-#[derive(Drop)]
+#[derive(Clone, Copy)]
 pub enum Generated {
     Value(Tuple),
     Refused(Refusal),

@@ -1,6 +1,8 @@
 // Answers the questions on standard input, a line each, as the published crate answered them (`stdout`): both files are
 // written by differential/vectors. The first 1,024 lines are the random tables; then a question is a letter and seven
 // numbers, those that it does not need 0.
+#![tactic(auto)]
+
 ghost use Rattle.std.specs.Prelude.{◌<◌, ◌≤◌, length};
 
 use field::refusal;
@@ -11,9 +13,10 @@ use headers::row::Checked;
 use headers::transmission::ObjectTransmissionInformation;
 use headers::tuple::Generated;
 use headers::{deg, ids, partition, rng, row, transmission, tuple};
+use std::io::Read;
 
 // A number of the text, and the place after it and the byte that ends it.
-#[derive(Drop)]
+#[derive(Clone, Copy)]
 struct Part {
     value: u64,
     at: usize,
@@ -59,78 +62,81 @@ fn word(x: u64) -> u32 {
     (x % 4294967296) as u32
 }
 
-fn say(x: u32) {
-    io::print_decimal(1, x as u64);
-    io::write_all(1, b" ");
+// What cannot be written is left out.
+fn print(rt: &impl Print, bytes: &[u8]) {
+    let _ = rt.write_all(bytes);
 }
 
-fn refuse(why: Refusal) {
-    io::write_all(1, b"refused ");
-    say(number(why));
+fn say(rt: &impl Print, x: u32) {
+    let _ = rt.print(x);
+    print(rt, b" ");
 }
 
-fn say_number(n: Number) {
+fn refuse(rt: &impl Print, why: Refusal) {
+    print(rt, b"refused ");
+    say(rt, number(why));
+}
+
+fn say_number(rt: &impl Print, n: Number) {
     match n {
-        Number::Value(x) => say(x),
-        Number::Refused(why) => refuse(why),
+        Number::Value(x) => say(rt, x),
+        Number::Refused(why) => refuse(rt, why),
     }
 }
 
-fn say_parts(p: partition::Answer) {
+fn say_parts(rt: &impl Print, p: partition::Answer) {
     match p {
         partition::Answer::Parts { il, is, jl, js } => {
-            say(il);
-            say(is);
-            say(jl);
-            say(js);
+            say(rt, il);
+            say(rt, is);
+            say(rt, jl);
+            say(rt, js);
         }
-        partition::Answer::Refused(why) => refuse(why),
+        partition::Answer::Refused(why) => refuse(rt, why),
     }
 }
 
-fn say_sizes(c: Checked) {
+fn say_sizes(rt: &impl Print, c: Checked) {
     match c {
         Checked::Value(r) => {
-            say(r.l);
-            say(r.p);
-            say(r.b);
-            say(r.p1);
+            say(rt, r.l);
+            say(rt, r.p);
+            say(rt, r.b);
+            say(rt, r.p1);
         }
-        Checked::Refused(why) => refuse(why),
+        Checked::Refused(why) => refuse(rt, why),
     }
 }
 
-fn say_isi(s: Shifted) {
+fn say_isi(rt: &impl Print, s: Shifted) {
     match s {
-        Shifted::Value(x) => say(ids::number(x)),
-        Shifted::Refused(why) => refuse(why),
+        Shifted::Value(x) => say(rt, ids::number(x)),
+        Shifted::Refused(why) => refuse(rt, why),
     }
 }
 
-fn say_tuple(g: Generated) {
+fn say_tuple(rt: &impl Print, g: Generated) {
     match g {
         Generated::Value(t) => {
-            say(t.d);
-            say(t.a);
-            say(t.b);
-            say(t.d1);
-            say(t.a1);
-            say(t.b1);
+            say(rt, t.d);
+            say(rt, t.a);
+            say(rt, t.b);
+            say(rt, t.d1);
+            say(rt, t.a1);
+            say(rt, t.b1);
         }
-        Generated::Refused(why) => refuse(why),
+        Generated::Refused(why) => refuse(rt, why),
     }
 }
 
-fn say_verdict(v: refusal::Answer) {
+fn say_verdict(rt: &impl Print, v: refusal::Answer) {
     match v {
-        refusal::Answer::Done => {
-            io::write_all(1, b"accepted ");
-        }
-        refusal::Answer::Refused(why) => refuse(why),
+        refusal::Answer::Done => print(rt, b"accepted "),
+        refusal::Answer::Refused(why) => refuse(rt, why),
     }
 }
 
-#[derive(Drop)]
+#[derive(Clone, Copy)]
 struct Question {
     kind: u8,
     n0: u64,
@@ -146,20 +152,20 @@ fn row_of(q: Question) -> Checked {
     row::check(word(q.n0), word(q.n1), word(q.n2), word(q.n3), word(q.n4))
 }
 
-fn answer_isi(q: Question) {
+fn answer_isi(rt: &impl Print, q: Question) {
     match row_of(q) {
-        Checked::Value(r) => say_isi(ids::isi_of(r, word(q.n5), Esi(word(q.n6)))),
-        Checked::Refused(why) => refuse(why),
+        Checked::Value(r) => say_isi(rt, ids::isi_of(r, word(q.n5), Esi(word(q.n6)))),
+        Checked::Refused(why) => refuse(rt, why),
     }
 }
 
-fn answer_tuple(q: Question, tables: &[u32]) {
+fn answer_tuple(rt: &impl Print, q: Question, tables: &[u32]) {
     match row_of(q) {
         Checked::Value(r) => {
             let x = ids::beneath::row_number(word(q.n5));
-            say_tuple(tuple::intermediate_tuple(r, tables, x));
+            say_tuple(rt, tuple::intermediate_tuple(r, tables, x));
         }
-        Checked::Refused(why) => refuse(why),
+        Checked::Refused(why) => refuse(rt, why),
     }
 }
 
@@ -173,23 +179,26 @@ fn information(q: Question) -> ObjectTransmissionInformation {
     }
 }
 
-fn answer(q: Question, tables: &[u32]) {
+fn answer(rt: &impl Print, q: Question, tables: &[u32]) {
     let kind = q.kind;
     match kind {
-        b'd' => say_number(deg::deg(word(q.n0), word(q.n1))),
-        b'p' => say_parts(partition::partition(word(q.n0), word(q.n1))),
-        b'r' => say_number(rng::rand(tables, word(q.n0), (q.n1 % 256) as u8, word(q.n2))),
-        b'w' => say_sizes(row_of(q)),
-        b'i' => answer_isi(q),
-        b't' => answer_tuple(q, tables),
-        b'c' => say_verdict(transmission::check(information(q))),
+        b'd' => say_number(rt, deg::deg(word(q.n0), word(q.n1))),
+        b'p' => say_parts(rt, partition::partition(word(q.n0), word(q.n1))),
+        b'r' => say_number(
+            rt,
+            rng::rand(tables, word(q.n0), (q.n1 % 256) as u8, word(q.n2)),
+        ),
+        b'w' => say_sizes(rt, row_of(q)),
+        b'i' => answer_isi(rt, q),
+        b't' => answer_tuple(rt, q, tables),
+        b'c' => say_verdict(rt, transmission::check(information(q))),
         _ => {}
     }
-    io::write_all(1, b"\n");
+    print(rt, b"\n");
 }
 
 // The question that begins at `from`, answered; the place where the next begins.
-fn line(text: &[u8], from: usize, tables: &[u32]) -> usize
+fn line(rt: &impl Print, text: &[u8], from: usize, tables: &[u32]) -> usize
     requires { from < length text.now }
     ensures { (from < result) × (result ≤ length text.now) }
 {
@@ -212,7 +221,7 @@ fn line(text: &[u8], from: usize, tables: &[u32]) -> usize
         n5: p5.value,
         n6: p6.value,
     };
-    answer(q, tables);
+    answer(rt, q, tables);
     p6.at
 }
 
@@ -231,23 +240,38 @@ fn read_tables(text: &[u8], tables: &mut [u32]) -> usize
     at
 }
 
-fn lines(text: &[u8], from: usize, tables: &[u32])
+fn lines(rt: &impl Print, text: &[u8], from: usize, tables: &[u32])
     requires { from ≤ length text.now }
 {
     let mut at = from;
     while at < text.len() {
-        at = line(text, at, tables);
+        at = line(rt, text, at, tables);
     }
 }
 
-fn run(text: &[u8]) {
+fn run(rt: &impl Print, text: &[u8]) {
     let mut tables = [0u32; 1024];
     let at = read_tables(text, &mut tables);
-    lines(text, at, &tables);
+    lines(rt, text, at, &tables);
 }
 
-fn main() {
+// Until the store is full, the input ends or a read fails: so many bytes, at the front of the store.
+fn read_full<R: Read>(from: &mut R, store: &mut [u8]) -> usize
+    ensures { result ≤ length store.new }
+{
+    let mut n = 0;
+    while n < store.len() {
+        match from.read(&mut store[n..]) {
+            Ok(0) => return n,
+            Ok(more) => n += more,
+            Err(_) => return n,
+        }
+    }
+    n
+}
+
+fn main(rt: HostRuntime) {
     let mut text = [0u8; 262144];
-    let n = io::read_full(0, &mut text);
-    run(&text[..n]);
+    let n = read_full(&mut rt.stdin(), &mut text);
+    run(&rt, &text[..n]);
 }

@@ -9,7 +9,7 @@ use native.Mathlib.Decide.{dec_lt}
 use native.Mathlib.Omega.{arith}
 use Rattle.field.specs.Octet.{times}
 use Rattle.field.specs.Sum.{sum}
-use Rattle.linear.specs.Index.{Col, cut}
+use Rattle.linear.specs.Index.{cut}
 use Rattle.linear.specs.Span.{Within}
 use Rattle.linear.specs.Independent.{RowOf, RowsOf}
 use Rattle.linear.specs.System.{System, SameEquation, OneOf, Included, joined}

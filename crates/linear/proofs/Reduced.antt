@@ -18,7 +18,7 @@ use Rattle.linear.proofs.Index.{find, choose}
 use Rattle.linear.proofs.Total.{total_ext, total-vanish, total-add, delta-self, delta-other, delta-sym, delta-apart, total-delta}
 use Rattle.linear.proofs.Span.{lin-lin, span-member, span-zero, span-trans, span-pull}
 use Rattle.linear.proofs.Kernel.{pigeon, pigeon-more}
-use Rattle.linear.proofs.Independent.{rank, most-of-span}
+use Rattle.linear.proofs.Independent.{most-of-span}
 use Rattle.linear.proofs.System.{fits-follows, contradiction-follows, clash}
 
 module _ (K : Field) where

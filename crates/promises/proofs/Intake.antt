@@ -17,7 +17,7 @@ use Rattle.field.proofs.Refusals.{passed}
 use Rattle.headers.specs.Row.{Obeys, l_of}
 use Rattle.headers.specs.declared.row.Row.{Row}
 use Rattle.elimination.specs.declared.verdict.Verdict.{Verdict}
-use Rattle.solver.specs.System.{Solves, admitted}
+use Rattle.solver.specs.System.{Solves}
 use Rattle.solver.specs.declared.solver.Solution.TheVariants.{Given, Refused}
 use Rattle.intake.specs.State.{Begun, t_in, l_in}
 use Rattle.intake.specs.Night.{Stretch, Holding, askable}

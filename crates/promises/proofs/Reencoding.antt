@@ -27,7 +27,7 @@ use Rattle.promises.specs.Calls.{Call, Judged, Came, Meets, Fitting, Encoding, s
 use Rattle.promises.proofs.Exactly.{call-judged, judged-solved-single}
 use Rattle.promises.proofs.Never.{encodes-sent, sent-fitting}
 
--- only the first L-as-T octets of the intermediates are read
+-- only the first L·T octets of the intermediates are read
 pub sent-set : (v : List ℕ) (r : Row) (k t : ℕ) (C D : List ℕ) (e b : ℕ) → set_in r t C ≡ D → b < t → sent v r k t C e b ≡ sent v r k t D e b
 sent-set v r k t C D e b q l = sum_same (l_of r) (λ c h. ap (times (enc_of v r (shifted e k r.kp) c)) (at (c * t + b) (cell-lt t (l_of r) c b h l)))
   where

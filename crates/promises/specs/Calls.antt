@@ -28,7 +28,7 @@ pub record Call (r : Row) (v : List ℕ) (k t : ℕ) (es xs o o₁ : List ℕ) (
   pub values-after : List ℕ
   pub contract : Solves r v k t es xs rows values o rows-after values-after o₁ answer
 
--- the set that an out store holds: its first L-as-T octets
+-- the set that an out store holds: its first L·T octets
 abbrev pub set_in : Row → ℕ → List ℕ → List ℕ
 set_in r t o = take (l_of r * t) o
 

@@ -105,7 +105,7 @@ JudgedOn z o o₁ w = Judged z.row z.tables z.k z.t z.esis z.symbols o o₁ w
 abbrev pub CallOn : Stretch → (o o₁ : List ℕ) → Solution → Type 0
 CallOn z o o₁ x = Call z.row z.tables z.k z.t z.esis z.symbols o o₁ x
 
--- and stores that are long enough for it: M-as-L, M-as-T and L-as-T octets
+-- and stores that are long enough for it: M·L, M·T and L·T octets
 pub record RoomFor (z : Stretch) (a d o : List ℕ) : Type 0 where
   pub stores : StoresRoom (equations z.row z.k (length z.esis)) (l_of z.row) z.t a d
   pub out : l_of z.row * z.t ≤ length o

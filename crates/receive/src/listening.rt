@@ -6,12 +6,11 @@ use crate::{input, output};
 use delivery::beneath::packets::Passed;
 use delivery::beneath::{packets, receiver};
 use intake::intake::question;
-use libc::STDIN_FILENO;
 use reply::beneath::words::Failure;
 use solver::solver::Solution;
 
 // To the end of the input, with what was passed over; or a read failed, which was said.
-#[derive(Drop)]
+#[derive(Clone, Copy)]
 pub enum Listened {
     Ended(Passed),
     Failed,
@@ -19,6 +18,7 @@ pub enum Listened {
 
 // At every hundredth packet of the block.
 fn tell(
+    rt: &HostRuntime,
     own: bool,
     n: u64,
     state: &mut [u32],
@@ -38,11 +38,12 @@ fn tell(
     let Solution::Given(v) = answer else {
         return;
     };
-    output::progress(n, v);
+    output::progress(rt, n, v);
 }
 
 // Each packet is read into the store, which has its T + 4 bytes. No input has as many packets as the count goes to.
 pub fn listen(
+    rt: &HostRuntime,
     packet: &mut [u8],
     state: &mut [u32],
     pivots: &mut [u16],
@@ -55,10 +56,12 @@ pub fn listen(
     let mut others: u64 = 0;
     let mut count: u64 = 0;
     while count < 18446744073709551615 {
-        let read = input::read_all(STDIN_FILENO, packet);
-        let Input::All(n) = read else {
-            output::fail(Failure::Reading);
-            return Listened::Failed;
+        let n = match input::read_all(&mut rt.stdin(), packet) {
+            Input::All(n) => n,
+            Input::Failed(why) => {
+                output::fail(rt, Failure::Reading, why);
+                return Listened::Failed;
+            }
         };
         if n < packet.len() {
             let cut = n > 0;
@@ -67,7 +70,7 @@ pub fn listen(
         let own = receiver::hear(packet, state, pivots, rows, values);
         others = packets::tally(others, own);
         count += 1;
-        tell(own, count - others, state, pivots, rows, values, set);
+        tell(rt, own, count - others, state, pivots, rows, values, set);
     }
     let cut = false;
     Listened::Ended(Passed { others, cut })

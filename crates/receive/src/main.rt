@@ -1,5 +1,7 @@
 // Reads a delivery on standard input, packet by packet, and writes its object to standard output, or to the file OUT that its one argument names. Notes,
 // and what it has to say instead, go to standard error (docs/DELIVERY.md).
+#![tactic(auto)]
+
 mod input;
 mod listening;
 mod output;
@@ -10,15 +12,17 @@ ghost use Rattle.delivery.specs.Hearing.{Roomy};
 use delivery::beneath::receiver;
 use delivery::beneath::receiver::Opened;
 use input::Input;
-use libc::STDIN_FILENO;
 use listening::Listened;
 use reply::beneath::arguments::Target;
 use reply::beneath::rows::Typed;
 use reply::beneath::words::Failure;
 use reply::beneath::{arguments, replying, rows as row_words};
+use std::env::FillError;
+use std::rt::Env;
 
 // Of a delivery that was opened, whose object has f bytes: to the end of the input, and then what comes of it.
 fn follow(
+    rt: &HostRuntime,
     f: usize,
     typed: Typed,
     packet: &mut [u8],
@@ -33,18 +37,19 @@ fn follow(
     requires in_bounds { (4 ≤ length packet.old) × (length out.now ≤ 4000) }
     requires values_in_bounds { (length values.old ≤ length set.old) × (length set.old ≤ length store.old) × (f ≤ length store.old) × (200 ≤ length store.old) }
 {
-    let listened = listening::listen(packet, state, pivots, rows, values, set);
+    let listened = listening::listen(rt, packet, state, pivots, rows, values, set);
     let Listened::Ended(passed) = listened else {
         return;
     };
-    output::note(passed);
+    output::note(rt, passed);
     let what = receiver::conclude(f, passed, state, pivots, rows, values, set, store);
     let reply = replying::say(store, what, typed);
-    output::write(reply, store, out);
+    output::write(rt, reply, store, out);
 }
 
 // The head is read; the rest of the input is read only where it is taken.
 fn take(
+    rt: &HostRuntime,
     head: &[u8],
     packet: &mut [u8],
     state: &mut [u32],
@@ -65,6 +70,7 @@ fn take(
         Opened::Ready(t, f) => {
             let size = t + 4;
             follow(
+                rt,
                 f,
                 typed,
                 &mut packet[..size],
@@ -77,19 +83,21 @@ fn take(
                 out,
             )
         }
-        Opened::Stopped(why) => output::stopped(why, typed),
+        Opened::Stopped(why) => output::stopped(rt, why, typed),
     }
 }
 
 // `out` is the name of OUT, or empty for standard output.
-fn run(out: &[u8])
+fn run(rt: &HostRuntime, out: &[u8])
     requires { length out.now ≤ 4000 }
 {
     let mut head = [0u8; 4128];
-    let read = input::read_all(STDIN_FILENO, &mut head);
-    let Input::All(n) = read else {
-        output::fail(Failure::Reading);
-        return;
+    let n = match input::read_all(&mut rt.stdin(), &mut head) {
+        Input::All(n) => n,
+        Input::Failed(why) => {
+            output::fail(rt, Failure::Reading, why);
+            return;
+        }
     };
     let mut packet = [0u8; 1028];
     let mut state = [0u32; 1037];
@@ -99,6 +107,7 @@ fn run(out: &[u8])
     let mut set = [0u8; 307200];
     let mut store = [0u8; 307200];
     take(
+        rt,
         &head[..n],
         &mut packet,
         &mut state,
@@ -111,15 +120,28 @@ fn run(out: &[u8])
     );
 }
 
-fn main() {
+// How many arguments there are, the program's own name among them; of more than two it is enough that there are three.
+fn count_arguments(rt: &HostRuntime) -> usize {
+    let mut byte = [0u8; 1];
+    for i in 0..3 {
+        if let Err(FillError::NotPresent) = rt.arg(i, &mut byte) {
+            return i;
+        }
+    }
+    3
+}
+
+fn main(rt: HostRuntime) {
     let mut name = [0u8; 4000];
-    let count = os::arg_count();
-    let n = os::arg(1, &mut name);
-    let whole = os::errno() == 0;
+    let count = count_arguments(&rt);
+    let (n, whole) = match rt.arg(1, &mut name) {
+        Ok(n) => (n, true),
+        Err(_) => (0, false),
+    };
     let target = arguments::from_arguments(count, whole, n);
     match target {
-        Target::Output => run(b""),
-        Target::File => run(&name[..n]),
-        Target::Misused(why) => output::misused(why),
+        Target::Output => run(&rt, b""),
+        Target::File => run(&rt, &name[..n]),
+        Target::Misused(why) => output::misused(&rt, why),
     }
 }

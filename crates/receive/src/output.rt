@@ -1,168 +1,229 @@
 // Writing: the object to standard output, or to a file beside OUT that takes OUT's name when it is whole; notes and words to standard error.
 ghost use Rattle.std.specs.Prelude.{◌≤◌, length};
+ghost use Rattle.header_text.specs.Counts.{IsPrefixLen};
 ghost use Rattle.reply.specs.Replies.{InStore};
 
 use delivery::beneath::packets::Passed;
 use delivery::beneath::screen::Stop;
 use elimination::verdict::Verdict;
-use libc::{STDERR_FILENO, STDOUT_FILENO};
 use reply::beneath::arguments::Misuse;
 use reply::beneath::replying::Reply;
 use reply::beneath::rows::Typed;
 use reply::beneath::words::Failure;
 use reply::beneath::{names, notes, words};
+use std::fs::File;
+use std::io::{Cursor, Error, ErrorKind, Write};
+use std::{fs, io, str};
 
-pub fn misused(why: Misuse) {
+// Linux's numbers for a name that is taken, and for bytes that are no text.
+const EEXIST: i32 = 17;
+
+const EILSEQ: i32 = 84;
+
+// All of the bytes, or why not: the first write that fails, or takes nothing, is the last one.
+fn write_all<W: Write>(to: &mut W, bytes: &[u8]) -> io::Result<()> {
+    let mut done = 0;
+    while done < bytes.len() {
+        match to.write(&bytes[done..]) {
+            Ok(0) => return Err(Error::from(ErrorKind::WriteZero)),
+            Ok(n) => done += n,
+            Err(why) => return Err(why),
+        }
+    }
+    Ok(())
+}
+
+// To standard error. Where it cannot be written, nobody can be told.
+fn say(rt: &HostRuntime, words: &[u8]) {
+    let _ = write_all(&mut rt.stderr(), words);
+}
+
+pub fn misused(rt: &HostRuntime, why: Misuse) {
     let mut line = [0u8; 200];
     let n = words::misused(&mut line, why);
-    io::write_all(STDERR_FILENO, &line[..n]);
+    say(rt, &line[..n]);
 }
 
 // Why a delivery is not taken; t: the numbers of its row.
-pub fn stopped(why: Stop, t: Typed) {
+pub fn stopped(rt: &HostRuntime, why: Stop, t: Typed) {
     let mut line = [0u8; 200];
     let n = words::stopped(&mut line, why, t);
-    io::write_all(STDERR_FILENO, &line[..n]);
+    say(rt, &line[..n]);
 }
 
 // How it stands after n packets of its block.
-pub fn progress(n: u64, v: Verdict) {
+pub fn progress(rt: &HostRuntime, n: u64, v: Verdict) {
     let mut line = [0u8; 200];
     let k = notes::progress(&mut line, n, v);
-    io::write_all(STDERR_FILENO, &line[..k]);
+    say(rt, &line[..k]);
 }
 
-pub fn note(passed: Passed) {
+pub fn note(rt: &HostRuntime, passed: Passed) {
     let mut lines = [0u8; 200];
     let n = notes::passed(&mut lines, passed);
-    io::write_all(STDERR_FILENO, &lines[..n]);
+    say(rt, &lines[..n]);
 }
 
-// With the system's reason for the call that failed just before.
-pub fn fail(what: Failure) {
+// Where ` (os error N)` begins, which std puts behind the system's word.
+fn word_end(text: &[u8]) -> usize
+    ensures { IsPrefixLen result text.now }
+{
+    for k in 0..text.len() {
+        if text[k..].starts_with(b" (os error ") {
+            return k;
+        }
+    }
+    text.len()
+}
+
+// The system's word for an error, which is shorter than 256 bytes.
+fn reason(rt: &HostRuntime, why: Error) {
+    let mut text = [0u8; 256];
+    let mut rest = &mut text[..];
+    let _ = write!(rest, "{why}");
+    let n = 256usize.saturating_sub(rest.len());
+    let k = word_end(&text[..n]);
+    say(rt, &text[..k]);
+}
+
+// With the system's reason for the call that failed.
+pub fn fail(rt: &HostRuntime, what: Failure, why: Error) {
     let mut line = [0u8; 200];
     let n = words::failed(&mut line, what);
-    os::fail(&line[..n]);
+    say(rt, &line[..n]);
+    say(rt, b": ");
+    reason(rt, why);
+    say(rt, b"\n");
 }
 
-// A file system may tell only when the file is closed that a write failed.
-fn to_output(object: &[u8]) {
-    if !io::write_all(STDOUT_FILENO, object) {
-        fail(Failure::Output);
-        return;
-    }
-    if libc::close(STDOUT_FILENO) < 0 {
-        fail(Failure::Output);
+fn to_output(rt: &HostRuntime, object: &[u8]) {
+    if let Err(why) = write_all(&mut rt.stdout(), object) {
+        fail(rt, Failure::Output, why);
     }
 }
 
-// Whether all of the object is in the file, on its device, and the file is closed. In any case it is closed.
-fn fill(fd: i32, object: &[u8]) -> bool {
-    if !io::write_all(fd, object) {
-        fail(Failure::Writing);
-        libc::close(fd);
+// Whether all of the object is in the file, and on its device. In any case the file is closed.
+fn fill(rt: &HostRuntime, mut file: File, object: &[u8]) -> bool {
+    if let Err(why) = write_all(&mut file, object) {
+        fail(rt, Failure::Writing, why);
         return false;
     }
-    if libc::fsync(fd) < 0 {
-        fail(Failure::Syncing);
-        libc::close(fd);
-        return false;
-    }
-    if libc::close(fd) < 0 {
-        fail(Failure::Closing);
+    if let Err(why) = file.sync_all() {
+        fail(rt, Failure::Syncing, why);
         return false;
     }
     true
 }
 
-fn open_folder(out: &[u8]) -> i32 {
+// A name as std takes it: text in UTF-8.
+fn path(name: &[u8]) -> io::Result<&str> {
+    match str::from_utf8(name) {
+        Ok(text) => Ok(text),
+        Err(_) => Err(Error::from_raw_os_error(EILSEQ)),
+    }
+}
+
+// A new file, so that none that is there is written to.
+fn create(rt: &HostRuntime, name: &[u8]) -> io::Result<File> {
+    File::options()
+        .write(true)
+        .create_new(true)
+        .open(rt, path(name)?)
+}
+
+fn rename(rt: &HostRuntime, from: &[u8], to: &[u8]) -> io::Result<()> {
+    fs::rename(rt, path(from)?, path(to)?)
+}
+
+fn remove(rt: &HostRuntime, name: &[u8]) -> io::Result<()> {
+    fs::remove_file(rt, path(name)?)
+}
+
+fn open_folder(rt: &HostRuntime, out: &[u8]) -> io::Result<File> {
     let k = names::last_part(out);
     if k == 0 {
-        return os::open_read(b".");
+        return File::open(rt, ".");
     }
-    os::open_read(&out[..k])
+    File::open(rt, path(&out[..k])?)
 }
 
 // So that the new name is on the device too. Not every file system can do that, and OUT is whole without it: nothing is said where it fails.
-fn sync_folder(out: &[u8]) {
-    let fd = open_folder(out);
-    if fd >= 0 {
-        libc::fsync(fd);
-        libc::close(fd);
+fn sync_folder(rt: &HostRuntime, out: &[u8]) {
+    if let Ok(folder) = open_folder(rt, out) {
+        let _ = folder.sync_all();
     }
 }
 
 // Whether the object stands at OUT.
-fn put(fd: i32, object: &[u8], name: &[u8], out: &[u8]) -> bool {
-    if !fill(fd, object) {
+fn put(rt: &HostRuntime, file: File, object: &[u8], name: &[u8], out: &[u8]) -> bool {
+    if !fill(rt, file, object) {
         return false;
     }
-    if os::rename(name, out) < 0 {
-        fail(Failure::Renaming);
+    if let Err(why) = rename(rt, name, out) {
+        fail(rt, Failure::Renaming, why);
         return false;
     }
-    sync_folder(out);
+    sync_folder(rt, out);
     true
 }
 
-fn put_or_remove(fd: i32, object: &[u8], name: &[u8], out: &[u8]) {
-    if put(fd, object, name, out) {
+fn put_or_remove(rt: &HostRuntime, file: File, object: &[u8], name: &[u8], out: &[u8]) {
+    if put(rt, file, object, name, out) {
         return;
     }
-    if os::unlink(name) < 0 {
-        fail(Failure::Removing);
+    if let Err(why) = remove(rt, name) {
+        fail(rt, Failure::Removing, why);
     }
 }
 
 // With the file of number i. Whether that name was taken, so that the next has to be tried.
-fn try_number(object: &[u8], out: &[u8], i: u32) -> bool
+fn try_number(rt: &HostRuntime, object: &[u8], out: &[u8], i: u32) -> bool
     requires { length out.now ≤ 4000 }
 {
-    let mut name = io::buffer();
+    let mut name = [0u8; 4096];
     let n = names::beside(out, i, &mut name);
-    let fd = os::create(&name[..n]);
-    if fd >= 0 {
-        put_or_remove(fd, object, &name[..n], out);
-        return false;
+    match create(rt, &name[..n]) {
+        Ok(file) => {
+            put_or_remove(rt, file, object, &name[..n], out);
+            false
+        }
+        Err(why) => {
+            if why.raw_os_error() == Some(EEXIST) {
+                return true;
+            }
+            fail(rt, Failure::Making, why);
+            false
+        }
     }
-    if os::errno() == libc::EEXIST {
-        return true;
-    }
-    fail(Failure::Making);
-    false
 }
 
 // A run that was killed leaves its file behind: one name after the other is tried, so that it blocks no later run.
-fn to_file(object: &[u8], out: &[u8])
+fn to_file(rt: &HostRuntime, object: &[u8], out: &[u8])
     requires { length out.now ≤ 4000 }
 {
-    let mut i = 0;
-    while i < 1000 {
-        if !try_number(object, out, i) {
+    for i in 0..1000 {
+        if !try_number(rt, object, out, i) {
             return;
         }
-        i += 1;
     }
-    fail(Failure::Making);
+    fail(rt, Failure::Making, Error::from_raw_os_error(EEXIST));
 }
 
-fn write_object(object: &[u8], out: &[u8])
+fn write_object(rt: &HostRuntime, object: &[u8], out: &[u8])
     requires { length out.now ≤ 4000 }
 {
     if out.len() == 0 {
-        to_output(object);
+        to_output(rt, object);
     } else {
-        to_file(object, out);
+        to_file(rt, object, out);
     }
 }
 
-pub fn write(reply: Reply, store: &[u8], out: &[u8])
+pub fn write(rt: &HostRuntime, reply: Reply, store: &[u8], out: &[u8])
     requires { InStore reply store.now × (length out.now ≤ 4000) }
 {
     match reply {
-        Reply::Object(n) => write_object(&store[..n], out),
-        Reply::Words(n) => {
-            io::write_all(STDERR_FILENO, &store[..n]);
-        }
+        Reply::Object(n) => write_object(rt, &store[..n], out),
+        Reply::Words(n) => say(rt, &store[..n]),
     }
 }

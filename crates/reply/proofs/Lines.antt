@@ -6,7 +6,7 @@ use Prim.Native.Nat.{ℕ, ◌≤◌}
 use native.Mathlib.Omega.{arith}
 use lib.ListN.{length, take}
 use lib.Seq.{length-take-le}
-use Rattle.io.specs.Counts.{IsPrefixLen}
+use Rattle.header_text.specs.Counts.{IsPrefixLen}
 use Rattle.headers.proofs.Bytes.{laid-front}
 use Rattle.field.proofs.Writing.{written_none}
 use Rattle.header_text.specs.Text.{Lined}

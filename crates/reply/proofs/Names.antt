@@ -1,9 +1,9 @@
--- The name of the file beside OUT: laid in five parts; there is one; it stands in OUT's folder, and is not OUT.
+-- The name of the file beside OUT: laid in four parts; there is one; it stands in OUT's folder, and is not OUT.
 -- Assumes nothing.
 use mathlib.Core.Path.{◌≡◌, sym, ap, ◌∙◌, subst}
 use mathlib.Core.Bool.{Bool, true, false, not}
 use mathlib.Core.List.{List, [], ◌∷◌, ◌++◌}
-use Prim.Native.Nat.{ℕ, zero, suc, ◌+◌, ◌-◌, ◌/◌, ◌%◌, ◌^◌, ◌≤◌, ◌<◌}
+use Prim.Native.Nat.{ℕ, zero, suc, ◌+◌, ◌-◌, ◌/◌, ◌%◌, ◌≤◌, ◌<◌}
 use native.Mathlib.Decide.{dec_lt}
 use native.Mathlib.Omega.{arith}
 use lib.Dec.{T, eqb, ltb}
@@ -12,11 +12,9 @@ use lib.Seq.{length-take-le, take_all, take-append-le, get_or-take, get_or-drop,
 use Rattle.field.specs.Choice.{pick}
 use Rattle.field.proofs.Computed.{under}
 use Rattle.field.proofs.Writing.{written_once}
-use Rattle.io.specs.Digits.{last_digits, IsDigitCount}
 use Rattle.headers.specs.Bytes.{Laid}
 use Rattle.headers.proofs.Bytes.{laid-append}
-use Rattle.header_text.specs.Text.{spelled}
-use Rattle.header_text.proofs.Lines.{spelled-fewest, fewest-20}
+use Rattle.header_text.specs.Text.{Lined, spelled}
 use Rattle.reply.specs.Ascii.{ascii}
 use Rattle.reply.specs.Words.{Line}
 use Rattle.reply.specs.Names.{Beside, LastPart, beside_of}
@@ -48,7 +46,7 @@ none_before path k some h f g = (omega arith, λ i b l e. go i b l e (dec_lt i k
         let q : k - 1 ≡ i = omega arith in
         g (ap (λ (x : ℕ). get_or path x 0) q ∙ e)
 
--- ---- the name, laid in five parts
+-- ---- the name, laid in four parts
 
 module _ (path : List ℕ) (k i : ℕ) (h : k ≤ length path) where
   rest : List ℕ
@@ -63,29 +61,25 @@ module _ (path : List ℕ) (k i : ℕ) (h : k ≤ length path) where
       let c = length-append (ascii ".receive-") (spelled 20 i) in
       omega (arith, a, b, c, length-take-le k path h, length-drop k path)
 
-  module _ (ds : List ℕ) (d : ℕ) {xs y1 y2 y3 y4 y5 : List ℕ} where
-    pub beside-laid : length path + 30 ≤ length xs → i < 2 ^ 64 → IsDigitCount 10 1 i d → take d ds ≡ last_digits 10 d i → d ≡ length (take d ds)
+  module _ {xs y1 y2 y3 y4 : List ℕ} {n : ℕ} where
+    pub beside-laid : length path + 30 ≤ length xs
         → Laid (take k path) xs y1 0
         → Laid (ascii ".") y1 y2 k
         → Laid (take (length path - k) (drop k path)) y2 y3 (k + 1)
-        → Laid (ascii ".receive-") y3 y4 (length path + 1)
-        → Laid (take d ds) y4 y5 (length path + 10)
-        → Line (beside_of path k i) xs y5 (length path + 10 + d)
+        → Lined (ascii ".receive-" ++ spelled 20 i) 29 y3 y4 (length path + 1) n
+        → Line (beside_of path k i) xs y4 n
     unfolding rest
-    beside-laid big small f e n v1 v2 v3 v4 v5 =
-        let q : take d ds ≡ spelled 20 i = e ∙ spelled-fewest 20 d i f (fewest-20 d i f small) in
-        let l : d ≡ length (spelled 20 i) = n ∙ ap length q in
-        let w5 : Laid (spelled 20 i) y4 y5 (length path + 10) = subst (λ (bs : List ℕ). Laid bs y4 y5 (length path + 10)) q v5 in
-        let w4 = laid-append (ascii ".receive-") (spelled 20 i) v4 (omega arith) w5 in
+    beside-laid big v1 v2 v3 v4 =
+        let l = length-append (ascii ".receive-") (spelled 20 i) in
         let w3 : Laid (drop k path) y2 y3 (k + 1) =
         subst (λ (bs : List ℕ). Laid bs y2 y3 (k + 1)) (take_all (length path - k) (drop k path) (omega (arith, length-drop k path))) v3
         in
-        let w2 = laid-append (drop k path) rest w3 (omega (arith, length-drop k path)) w4 in
+        let w2 = laid-append (drop k path) rest w3 (omega (arith, length-drop k path)) v4.laid in
         let w1 = laid-append (ascii ".") (drop k path ++ rest) v2 (omega arith) w2 in
         record {
           laid = laid-append (take k path) (ascii "." ++ (drop k path ++ rest)) v1 (omega (arith, length-take-le k path h)) w1;
-          count = omega (arith, l, beside-length);
-          room = omega (arith, l, beside-length, fewest-20 d i f small);
+          count = omega (arith, l, v4.ends, beside-length);
+          room = omega (arith, l, v4.short, beside-length);
         }
 
 -- ---- it is another file than OUT, in the same folder

@@ -1,7 +1,7 @@
 -- What is written of a delivery, and to which stream (docs/DELIVERY.md).
 -- Assumes nothing.
 use Rattle.std.specs.Prelude.{◌≡◌, List, [], ◌++◌, ℕ, take}
-use Rattle.io.specs.Counts.{IsPrefixLen}
+use Rattle.header_text.specs.Counts.{IsPrefixLen}
 use Rattle.elimination.specs.declared.verdict.Verdict.{Verdict}
 use Rattle.elimination.specs.declared.verdict.Verdict.TheVariants.{Solved, Contradiction, Open}
 use Rattle.delivery.specs.Received.{Comes}

@@ -1,4 +1,4 @@
--- The laws of `slab`. A crate above names these as `Rattle.slabs.proofs.Slabs`.
+-- The laws of `slabs`. A crate above names these as `Rattle.slabs.proofs.Slabs`.
 pub mod Symbols
 pub mod Slabs
 pub mod Once

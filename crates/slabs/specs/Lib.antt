@@ -1,2 +1,2 @@
--- What the contracts of `slab` cite. A crate above names these as `Rattle.slabs.specs.Slab`.
+-- What the contracts of `slabs` cite. A crate above names these as `Rattle.slabs.specs.Slab`.
 pub mod Slab

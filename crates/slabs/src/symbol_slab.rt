@@ -12,27 +12,27 @@ use field::beneath::runs;
 use field::refusal::{Answer, Refusal};
 
 // How many symbols there are, and how many bytes each has.
-#[derive(Drop)]
+#[derive(Clone, Copy)]
 pub struct SymbolSlab {
     pub count: usize,
     pub size: u16,
 }
 
-#[derive(Drop)]
+#[derive(Clone, Copy)]
 pub enum Made {
     Slab(SymbolSlab),
     Refused(Refusal),
 }
 
 // Whether the bytes of a symbol that was written are all 0 now.
-#[derive(Drop)]
+#[derive(Clone, Copy)]
 pub enum Changed {
     AllZero(bool),
     Refused(Refusal),
 }
 
 // Where the bytes of a symbol begin and end.
-#[derive(Drop)]
+#[derive(Clone, Copy)]
 pub enum Range {
     Bytes(usize, usize),
     Refused(Refusal),

@@ -7,7 +7,7 @@ use crate::beneath::esis;
 use field::refusal::{Answer, Refusal};
 
 // Where the bytes of a symbol begin.
-#[derive(Drop)]
+#[derive(Clone, Copy)]
 pub enum Shown {
     Arrived(usize),
     Rebuilt(usize),

@@ -11,7 +11,7 @@ use headers::beneath::row;
 use headers::row::Row;
 
 // A verdict on the system of the call, or a refusal.
-#[derive(Drop)]
+#[derive(Clone, Copy)]
 pub enum Solution {
     Given(Verdict),
     Refused(Refusal),

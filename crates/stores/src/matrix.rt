@@ -11,19 +11,19 @@ use field::octet;
 use field::refusal::{Answer, Refusal};
 
 // How many rows and columns there are.
-#[derive(Drop)]
+#[derive(Clone, Copy)]
 pub struct DenseBinaryMatrix {
     pub height: usize,
     pub width: usize,
 }
 
-#[derive(Drop)]
+#[derive(Clone, Copy)]
 pub enum Made {
     Matrix(DenseBinaryMatrix),
     Refused(Refusal),
 }
 
-#[derive(Drop)]
+#[derive(Clone, Copy)]
 pub enum Count {
     Ones(usize),
     Refused(Refusal),

@@ -20,14 +20,14 @@ use intake::intake::{begin, packet, question};
 use solver::solver::Solution;
 
 // Ready: the bytes of a symbol, and those of the object.
-#[derive(Drop)]
+#[derive(Clone, Copy)]
 pub enum Opened {
     Ready(usize, usize),
     Stopped(Stop),
 }
 
 // Taken: the verdict on its system, the bytes of its object, so many, which stand at the front of the lent store where it is solved, and what was passed over.
-#[derive(Drop)]
+#[derive(Clone, Copy)]
 pub enum Received {
     Taken(Verdict, usize, Passed),
     Stopped(Stop),

@@ -12,14 +12,14 @@ use headers::transmission;
 use headers::transmission::ObjectTransmissionInformation;
 
 // Why not: a refusal of document 01, or what this program alone does not take.
-#[derive(Drop)]
+#[derive(Clone, Copy)]
 pub enum Stop {
     Refused(Refusal),
     TooLarge,
     SeveralBlocks,
 }
 
-#[derive(Drop)]
+#[derive(Clone, Copy)]
 pub enum Screened {
     Passed,
     Stopped(Stop),

@@ -15,7 +15,7 @@ use crate::verdict::Verdict;
 use field::beneath::runs;
 
 // How many equations are held so far, or that one of them cannot be met.
-#[derive(Drop)]
+#[derive(Clone, Copy)]
 pub enum Progress {
     Held(usize),
     Clash,

@@ -9,7 +9,7 @@ use crate::beneath::{onto, rows};
 use field::beneath::runs;
 
 // What became of the equation.
-#[derive(Drop)]
+#[derive(Clone, Copy)]
 pub enum Taken {
     Held,
     Dependent,

@@ -8,14 +8,14 @@ use crate::row::Row;
 use field::refusal::{Answer, Part, Refusal};
 
 // L, P, B and P1 of five numbers that keep their rules, or the first rule that they break.
-#[derive(Drop)]
+#[derive(Clone, Copy)]
 pub enum Derivation {
     Numbers { l: u32, p: u32, b: u32, p1: u32 },
     Broken(Part),
 }
 
 // Each of five numbers in its range, or the first rule that they break.
-#[derive(Drop)]
+#[derive(Clone, Copy)]
 pub enum Ranging {
     Within,
     Outside(Part),

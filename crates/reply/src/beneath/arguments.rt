@@ -2,14 +2,14 @@
 ghost use Rattle.std.specs.Prelude.{◌≡◌};
 ghost use Rattle.reply.specs.Targets.{target_of};
 
-#[derive(Drop)]
+#[derive(Clone, Copy)]
 pub enum Misuse {
     Arguments,
     NoName,
     LongName,
 }
 
-#[derive(Drop)]
+#[derive(Clone, Copy)]
 pub enum Target {
     Output,
     File,

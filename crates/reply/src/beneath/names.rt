@@ -2,6 +2,7 @@
 ghost use Rattle.std.specs.Prelude.{◌+◌, ◌≤◌, length};
 ghost use Rattle.reply.specs.Names.{Beside, LastPart};
 
+use header_text::beneath::numbered;
 use headers::beneath::big_endian;
 
 // Where the last part of a path begins: behind its last '/', so that what stands in front of it is the folder.
@@ -23,14 +24,10 @@ pub fn beside(path: &[u8], i: u32, name: &mut [u8]) -> usize
     requires { length path.now + 30 ≤ length name.old }
     ensures { Beside path.now i name.old name.new result }
 {
-    let mut digits = [0u8; 20];
-    let d = io::decimal(i as u64, &mut digits);
     let k = last_part(path);
     let len = path.len();
     big_endian::copy(name, 0, &path[..k]);
     big_endian::copy(name, k, b".");
     big_endian::copy(name, k + 1, &path[k..]);
-    big_endian::copy(name, len + 1, b".receive-");
-    big_endian::copy(name, len + 10, &digits[..d]);
-    len + 10 + d
+    numbered(name, len + 1, b".receive-", i as u64)
 }

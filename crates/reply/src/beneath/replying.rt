@@ -1,6 +1,6 @@
 // What is written of a delivery, and to which stream.
 ghost use Rattle.std.specs.Prelude.{◌≤◌, length};
-ghost use Rattle.io.specs.Counts.{IsPrefixLen};
+ghost use Rattle.header_text.specs.Counts.{IsPrefixLen};
 ghost use Rattle.delivery.specs.Received.{InRoom};
 ghost use Rattle.reply.specs.Replies.{InStore, Replied, Said, SaidOf, notes_of};
 ghost use Rattle.reply.specs.Words.{Line};
@@ -12,14 +12,14 @@ use delivery::beneath::receiver::Received;
 use elimination::verdict::Verdict;
 
 // So many bytes at the front of the store. Object: to standard output, or to the file OUT; Words: to standard error.
-#[derive(Drop)]
+#[derive(Clone, Copy)]
 pub enum Reply {
     Object(usize),
     Words(usize),
 }
 
 // The notes, so many bytes at the front of a store of their own, which come first; and the reply.
-#[derive(Drop)]
+#[derive(Clone, Copy)]
 pub struct Spoken {
     pub notes: usize,
     pub reply: Reply,

@@ -12,7 +12,7 @@ use header_text::beneath::numbered;
 use headers::beneath::{big_endian, util};
 
 // K', J, S, H and W as they stand in a delivery.
-#[derive(Drop)]
+#[derive(Clone, Copy)]
 pub struct Typed {
     pub kp: u32,
     pub j: u32,

@@ -25,7 +25,7 @@ pub fn add(slab: &mut [u8], t: usize, to: usize, from: usize) -> bool
         let n = chunk_len(t - at);
         let first = from + at;
         let last = first + n;
-        bytes::copy(&slab[first..last], &mut chunk);
+        chunk[..n].copy_from_slice(&slab[first..last]);
         let piece = field::beneath::runs::add(&mut slab[to..end], at, &chunk[..n]);
         zero = zero & piece;
         at += n;
@@ -57,7 +57,7 @@ pub fn fma(slab: &mut [u8], t: usize, to: usize, from: usize, c: u8) -> bool
         let n = chunk_len(t - at);
         let first = from + at;
         let last = first + n;
-        bytes::copy(&slab[first..last], &mut chunk);
+        chunk[..n].copy_from_slice(&slab[first..last]);
         let piece = field::beneath::runs::fma(&mut slab[to..end], at, &chunk[..n], c);
         zero = zero & piece;
         at += n;

@@ -1,0 +1,13 @@
+-- `constraints::beneath::ldpc::two_of` meets its contract.
+-- Assumes nothing.
+use Prim.Native.Nat.{◌-◌, ◌≤◌}
+use Rattle.field.specs.Octet.{plus}
+use Rattle.field.specs.Runs.{Written}
+use Rattle.field.specs.Sum.{unit}
+use Rattle.constraints.proofs.beneath.ldpc.two_of.Given as goal
+
+abbrev pub invariant-loop-k : goal.invariant-loop-k
+invariant-loop-k l = (l.k ≤ l.n) × Written (λ i. plus (unit i l.x) (unit i l.y)) l.initial.out l.out l.at l.k
+
+abbrev pub decreases-loop-k : goal.decreases-loop-k
+decreases-loop-k l = l.n - l.k

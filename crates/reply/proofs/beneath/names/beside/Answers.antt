@@ -1,0 +1,12 @@
+-- `reply::beneath::names::beside` meets its contract: four parts, one behind the other.
+-- Assumes nothing.
+use Rattle.reply.proofs.Names.{beside-laid}
+use Rattle.reply.proofs.beneath.names.beside.Goals as goal
+
+pub returns : goal.returns
+returns c =
+    record {
+      from = c.last_part-k.result;
+      last = c.last_part-k.ensures;
+      line = beside-laid c.args.path.now c.last_part-k.result c.args.i c.last_part-k.ensures.inside c.requires c.copy.ensures c.copy-2.ensures c.copy-3.ensures c.numbered.ensures;
+    }

@@ -1,0 +1,13 @@
+use mathlib.Core.Path.{refl}
+use native.Mathlib.Omega.{arith}
+use Rattle.field.proofs.Writing.{written_none, written-more, written_is}
+use Rattle.stores.proofs.beneath.words.clear.Goals as goal
+
+pub loop-i-init : goal.loop-i-init
+loop-i-init c = (written_none _ _ _, omega arith)
+
+pub loop-i-preserved : goal.loop-i-preserved
+loop-i-preserved c = (written-more c.loop-i.invariant.0 (omega arith) (omega arith) refl, omega arith)
+
+pub returns : goal.returns
+returns c = written_is c.loop-i.invariant.0 (omega arith)
