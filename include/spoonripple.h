@@ -1,5 +1,5 @@
 /* The C interface of Spoonripple (crates/exports): a RaptorQ (RFC 6330) receiving core that is proved never to invent a byte.
- * `rt staticlib exports` makes target/staticlib/libexports.a, for x86-64 Linux; bindings/c/receive.c is a receiver to begin from.
+ * `bindings/prepare` makes target/staticlib/libexports.a, for x86-64 Linux (x86-64-v2); bindings/c/receive.c is a receiver to begin from.
  *
  * How a call is read
  *   A number passes as itself. A slice passes as a pointer and how many elements are lent there, NAME and NAME_len.

@@ -1,4 +1,4 @@
-// Links the archive that `rt staticlib exports` makes: from the folder SPOONRIPPLE_ARCHIVE, or from target/staticlib of this repository.
+// Links the archive of crates/exports: from the folder SPOONRIPPLE_ARCHIVE, or from target/staticlib of this repository, where bindings/prepare lays it.
 use std::path::Path;
 
 fn main() {
@@ -7,7 +7,7 @@ fn main() {
     let folder = std::env::var("SPOONRIPPLE_ARCHIVE").unwrap_or(format!("{here}/../../target/staticlib"));
     let archive = Path::new(&folder).join("libexports.a");
     if !archive.is_file() {
-        println!("cargo::error={} is missing: run `rt staticlib exports`, or set SPOONRIPPLE_ARCHIVE to the folder of libexports.a", archive.display());
+        println!("cargo::error={} is missing: run bindings/prepare of the repository, or set SPOONRIPPLE_ARCHIVE to the folder of libexports.a", archive.display());
         return;
     }
     println!("cargo::rerun-if-changed={}", archive.display());

@@ -1,5 +1,5 @@
 //! That neither table of octets stands in what a reader loads (document 02, E10): the archive, and the programs receive and header. And that one would be
-//! found: in bytes of the harness's own, and in the program field_vectors, which has both.
+//! found: in bytes of the harness's own. Nothing that is built rests on the crate octet_tables.
 use differential::Random;
 use differential::report::{DEFAULT_COUNT, Found, Report};
 use raptorq::octet::Octet;
@@ -85,7 +85,9 @@ fn told(file: &str, table: &Table, found: &[Stretch]) -> String {
 
 /// All that a crate rests on, by the lines of crates.txt; none if it has no line there.
 fn beneath(name: &str) -> Option<BTreeSet<&'static str>> {
-    let lines: BTreeMap<&str, &str> = CRATES.lines().filter(|line| !line.starts_with('#')).filter_map(|line| line.split_once(':')).collect();
+    // What stands behind the name, as `staticlib`, is the kind of the crate.
+    let rows = CRATES.lines().filter(|line| !line.starts_with('#')).filter_map(|line| line.split_once(':'));
+    let lines: BTreeMap<&str, &str> = rows.filter_map(|(name, uses)| Some((name.split_whitespace().next()?, uses))).collect();
     let (mut all, mut next) = (BTreeSet::new(), vec![*lines.get(name)?]);
     while let Some(names) = next.pop() {
         next.extend(names.split_whitespace().filter(|name| all.insert(*name)).filter_map(|name| lines.get(name)));
@@ -106,15 +108,9 @@ pub fn run(count: u64, seed: u64) -> Found {
             report.of("files without a table", found.is_empty(), || told(name, table, &found));
         }
     }
-    for table in &tables {
-        let found = table.stretches(&built(programs, "field_vectors"));
-        report.of("files with a table", table.covered(&found) * 10 >= table.different * 9, || told("field_vectors, which links them,", table, &found));
-    }
-    for (name, rests) in [("exports", false), ("receive", false), ("header", false), ("field_vectors", true)] {
-        let same = beneath(name).is_some_and(|all| all.contains("octet_tables") == rests);
-        report.of("crates and what they rest on", same, || {
-            format!("crates.txt: {name} has to be there, and {} on octet_tables", if rests { "to rest" } else { "not to rest" })
-        });
+    for name in ["exports", "receive", "header", "field_vectors"] {
+        let apart = beneath(name).is_some_and(|all| !all.contains("octet_tables"));
+        report.of("crates and what they rest on", apart, || format!("crates.txt: {name} has to be there, and not to rest on octet_tables"));
     }
     let code = built(programs, "header");
     for _ in 0..count.div_ceil(DEFAULT_COUNT).max(1) {
