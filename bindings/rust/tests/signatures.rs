@@ -66,10 +66,10 @@ fn header_and_declarations_are_those_of_the_source() {
 /// Names with their numbers, by rising number.
 type Numbered = Vec<(u32, String)>;
 
-/// The arms `KIND::Name => number,` of a function in a Rattle source, what the name holds left out.
+/// The arms `KIND::Name => number,` of a method in a Rattle source, what the name holds left out.
 fn arms(source: &str, function: &str, kind: &str) -> Numbered {
-    let (_, rest) = source.split_once(&format!("\npub fn {function}(")).unwrap();
-    let arms = rest.split("\n}\n").next().unwrap().lines().filter_map(|line| line.trim().strip_prefix(kind)?.split_once(" => "));
+    let (_, rest) = source.split_once(&format!("\n    pub fn {function}(self)")).unwrap();
+    let arms = rest.split("\n    }\n").next().unwrap().lines().filter_map(|line| line.trim().strip_prefix(kind)?.split_once(" => "));
     let mut all: Numbered = arms.map(|(name, n)| (n.trim_end_matches(',').parse().unwrap(), name.split('(').next().unwrap().to_string())).collect();
     all.sort();
     all

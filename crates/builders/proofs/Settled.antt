@@ -11,18 +11,17 @@ use lib.Arith.{digits_div, digits_mod}
 use lib.ListN.{length, get_or}
 use lib.Pow.{pow_mono}
 use lib.Seq.{ext_get_or}
-use Rattle.field.specs.Answer.{Outcome, Left}
-use Rattle.field.proofs.Refusals.{left-once}
+use Rattle.std.specs.Prelude.{Result}
+use Rattle.field.specs.declared.refusal.Refusal.{Refusal}
+use Rattle.field.proofs.Refusals.{settled}
 use Rattle.headers.specs.Row.{Obeys, l_of, p_of}
 use Rattle.headers.specs.declared.row.Row.{Row}
 use Rattle.headers.proofs.Accepted.{l-is, ready}
 use Rattle.headers.proofs.Tuples.{bounded}
 use Rattle.stores.specs.Bits.{bit}
-use Rattle.stores.specs.Matrix.{matrix_outcome, row_words, words_of}
+use Rattle.stores.specs.Matrix.{row_words, words_of}
 use Rattle.stores.specs.declared.matrix.DenseBinaryMatrix.{DenseBinaryMatrix}
-use Rattle.stores.specs.declared.matrix.Made.{Made}
 use Rattle.stores.proofs.Bits.{bits-ext}
-use Rattle.stores.proofs.Once.{made-only}
 use Rattle.constraints.proofs.Accepted.{crosses}
 use Rattle.constraints.proofs.Closed.{clear-end}
 use Rattle.constraints.proofs.Rows.{enc-off, places-below}
@@ -64,13 +63,10 @@ module _ {v isis : List ℕ} {r : Row} {zeros : ℕ} {xs ys zs : List ℕ} (u : 
       go k (no h) = u.high k (omega arith) ∙ sym (w.high k (omega arith))
 
 -- generate_constraint_matrix, generate_constraint_matrix_no_hdpc
-pub builds-only : {v isis : List ℕ} {r : Row} {zeros least : ℕ} {xs ys zs : List ℕ} {a b : Made} → Builds v isis r zeros least xs ys a → Builds v isis r zeros least xs zs b
-    → (a ≡ b) × (ys ≡ zs)
-builds-only {v} {isis} {r} {zeros} {least} {xs} {ys} {zs} {a} {b} s t = (
-  made-only a b (s.answer ∙ sym t.answer),
-  left-once (λ ws. Built v isis r zeros xs ws) (matrix_outcome a) xs ys zs (λ p q. built-once p q) s.memory
-      (subst (λ (o : Outcome DenseBinaryMatrix). Left o xs zs (Built v isis r zeros xs zs)) (t.answer ∙ sym s.answer) t.memory),
-)
+pub builds-only : {v isis : List ℕ} {r : Row} {zeros least : ℕ} {xs ys zs : List ℕ} {a b : Result DenseBinaryMatrix Refusal}
+    → Builds v isis r zeros least xs ys a → Builds v isis r zeros least xs zs b → (a ≡ b) × (ys ≡ zs)
+builds-only {v} {isis} {r} {zeros} {least} {xs} {ys} {zs} {a} {b} s t =
+    settled _ xs (Built v isis r zeros xs) (λ p q. built-once) a b ys zs (s.answer, s.memory) (t.answer, t.memory)
 
 -- the bits past the width
 pub stray-zero : {r : Row} → Obeys r → (v : List ℕ) → length v ≡ 1024 → (isis : List ℕ) (zeros i c : ℕ) → l_of r ≤ c → system v isis r zeros i c ≡ 0

@@ -1,13 +1,13 @@
 -- The constraint matrix over lent words: what it holds, and when a builder refuses (document 01, 'Matrices and slab').
 -- Assumes nothing.
-use Rattle.std.specs.Prelude.{◌≡◌, not, List, ℕ, ◌+◌, ◌-◌, ◌/◌, ◌^◌, ◌<◌, ◌≤◌, eqb, ltb, length, get_or}
-use Rattle.field.specs.Answer.{Outcome, given, unless, Left, before}
+use Rattle.std.specs.Prelude.{◌≡◌, not, List, Result, ℕ, ◌+◌, ◌-◌, ◌/◌, ◌^◌, ◌<◌, ◌≤◌, eqb, ltb, length, get_or}
+use Rattle.field.specs.Answer.{Outcome, given, unless, Left, before, outcome}
 use Rattle.field.specs.Choice.{pick}
+use Rattle.field.specs.declared.refusal.Refusal.{Refusal}
 use Rattle.headers.specs.Row.{verified, l_of}
 use Rattle.headers.specs.declared.row.Row.{Row}
-use Rattle.stores.specs.Matrix.{entry, matrix_outcome, row_words, shape, words_of}
+use Rattle.stores.specs.Matrix.{entry, row_words, shape, words_of}
 use Rattle.stores.specs.declared.matrix.DenseBinaryMatrix.{DenseBinaryMatrix}
-use Rattle.stores.specs.declared.matrix.Made.{Made}
 use Rattle.constraints.specs.Encoding.{enc_of}
 use Rattle.constraints.specs.Ldpc.{ldpc_of}
 
@@ -34,6 +34,6 @@ buildable r tables ids zeros least room =
     before (verified r) (unless (not (eqb tables 1024)) 5 (unless (ltb ids least) 9 (unless (ltb 65535 ids) 9
     (unless (ltb room (words_of (shaped r zeros ids))) 8 (given (shaped r zeros ids))))))
 
-pub record Builds (v isis : List ℕ) (r : Row) (zeros least : ℕ) (xs ys : List ℕ) (a : Made) : Type 0 where
-  pub answer : matrix_outcome a ≡ buildable r (length v) (length isis) zeros least (length xs)
-  pub memory : Left (matrix_outcome a) xs ys (Built v isis r zeros xs ys)
+pub record Builds (v isis : List ℕ) (r : Row) (zeros least : ℕ) (xs ys : List ℕ) (a : Result DenseBinaryMatrix Refusal) : Type 0 where
+  pub answer : outcome a ≡ buildable r (length v) (length isis) zeros least (length xs)
+  pub memory : Left (outcome a) xs ys (Built v isis r zeros xs ys)

@@ -7,11 +7,12 @@ ghost use Rattle.builders.specs.Adding.{Lies};
 ghost use Rattle.builders.specs.Built.{Builds, Built, shaped};
 
 use crate::beneath::adding;
-use field::refusal::{Answer, Refusal};
+use field::refusal::Refusal;
 use headers::beneath::row;
 use headers::row::Row;
 use stores::beneath::words;
-use stores::matrix::{DenseBinaryMatrix, Made};
+use stores::beneath::words::row_word_width;
+use stores::matrix::DenseBinaryMatrix;
 
 fn fill(r: Row, tables: &[u32], isis: &[u32], ws: &mut [u64], zeros: u32)
     requires { Obeys r × (length tables.now ≡ 1024) × (zeros ≤ r.h) × (length isis.now ≤ 65535) × Lies (shaped r zeros (length isis.now)) ws.old }
@@ -22,42 +23,51 @@ fn fill(r: Row, tables: &[u32], isis: &[u32], ws: &mut [u64], zeros: u32)
     let height = from + isis.len();
     let width = r.l as usize;
     let m = DenseBinaryMatrix { height, width };
-    words::clear(ws, height * ((width + 63) / 64));
+    words::clear(ws, height * row_word_width(width));
     adding::ldpc_rows(ws, m, s, r.w as usize, r.b as usize, r.p as usize);
     adding::enc_rows(ws, m, from, tables, isis, r.j, r.w, r.p, r.p1);
 }
 
 // With `zeros` rows of 0 after the LDPC rows, of at least `least` ids.
-fn build(r: Row, tables: &[u32], isis: &[u32], ws: &mut [u64], zeros: u32, least: u32) -> Made
+fn build(
+    r: Row,
+    tables: &[u32],
+    isis: &[u32],
+    ws: &mut [u64],
+    zeros: u32,
+    least: u32,
+) -> Result<DenseBinaryMatrix, Refusal>
     requires { Obeys r × (zeros ≤ r.h) }
     ensures { Builds tables.now isis.now r zeros least ws.old ws.new result }
 {
     if tables.len() != 1024 {
-        return Made::Refused(Refusal::BadTables);
+        return Err(Refusal::BadTables);
     }
     let count = isis.len();
     if count < least as usize {
-        return Made::Refused(Refusal::BadCount);
+        return Err(Refusal::BadCount);
     }
     if count > 65535 {
-        return Made::Refused(Refusal::BadCount);
+        return Err(Refusal::BadCount);
     }
     let height = (r.s + zeros) as usize + count;
     let width = r.l as usize;
-    if ws.len() < height * ((width + 63) / 64) {
-        return Made::Refused(Refusal::WrongLength);
+    if ws.len() < height * row_word_width(width) {
+        return Err(Refusal::WrongLength);
     }
     fill(r, tables, isis, ws, zeros);
-    Made::Matrix(DenseBinaryMatrix { height, width })
+    Ok(DenseBinaryMatrix { height, width })
 }
 
-pub fn generate_constraint_matrix(r: Row, tables: &[u32], isis: &[u32], ws: &mut [u64]) -> Made
+pub fn generate_constraint_matrix(
+    r: Row,
+    tables: &[u32],
+    isis: &[u32],
+    ws: &mut [u64],
+) -> Result<DenseBinaryMatrix, Refusal>
     ensures { Builds tables.now isis.now r r.h r.kp ws.old ws.new result }
 {
-    let fine = row::verify(r);
-    if let Answer::Refused(why) = fine {
-        return Made::Refused(why);
-    }
+    row::verify(r)?;
     build(r, tables, isis, ws, r.h, r.kp)
 }
 
@@ -67,12 +77,9 @@ pub fn generate_constraint_matrix_no_hdpc(
     tables: &[u32],
     isis: &[u32],
     ws: &mut [u64],
-) -> Made
+) -> Result<DenseBinaryMatrix, Refusal>
     ensures { Builds tables.now isis.now r 0 (r.kp + r.h) ws.old ws.new result }
 {
-    let fine = row::verify(r);
-    if let Answer::Refused(why) = fine {
-        return Made::Refused(why);
-    }
+    row::verify(r)?;
     build(r, tables, isis, ws, 0, r.kp + r.h)
 }

@@ -9,7 +9,11 @@ use mathlib.Core.Logic.{◌⊎◌, inl, inr}
 use lib.Arith.{digits_div}
 use borrow.Author.Tests.{eq-eqb, ne_eqb}
 use lib.Bits.{xor_zero_r}
+use lib.ListN.{length, get_or, set, length-set}
+use lib.Seq.{get_or-set_same, get_or-set_other}
+use mathlib.Core.List.{List}
 use Rattle.field.specs.Octet.{plus}
+use Rattle.field.specs.Runs.{Written}
 use Rattle.field.specs.Sum.{sum, unit}
 use Rattle.field.proofs.Sums.{unit-same, unit-other, sum-zero, sum-only}
 use Rattle.headers.specs.Quotient.{ceil}
@@ -68,29 +72,27 @@ module _ (s w p r c : ℕ) where
   pub ldpc-first : c < w - s → ldpc s w p r c ≡ crossed s r c
   unfolding first second
   ldpc-first h =
-      parts
-      ∙ ap₂ plus
-      (ap₂ plus (sum-only (w - s) first c h (λ k b n. first-other k (λ e. n (sym e)))) (sum-zero s {f = second} (λ k b. other-column r c k (w - s + k) (λ e. omega arith))))
-      (sum-zero s {f = last} (λ k b. last-low k (omega arith)))
+      let one-turn = sum-only (w - s) first c h (λ k b n. first-other k (λ e. n (sym e))) in
+      let no-second = sum-zero s {f = second} (λ k b. other-column r c k (w - s + k) (λ e. omega arith)) in
+      let no-last = sum-zero s {f = last} (λ k b. last-low k (omega arith)) in
+      parts ∙ ap₂ plus (ap₂ plus one-turn no-second) no-last
       ∙ xor_zero_r (plus (first c) 0) ∙ xor_zero_r (first c)
       ∙ ap₂ plus (ap₂ plus (adds-column r c (one s c)) (adds-column r c (two s c))) (adds-column r c (three s c))
 
   pub ldpc-second : w - s ≤ c → c < w → r < s → ldpc s w p r c ≡ unit c (w - s + r)
   unfolding second
   ldpc-second a b h =
-      parts
-      ∙ ap₂ plus
-      (ap₂ plus (sum-zero (w - s) {f = first} (λ k q. first-other k (λ e. omega arith))) (sum-only s second r h (λ k q n. other_row r c k (w - s + k) (λ e. n (sym e)))))
-      (sum-zero s {f = last} (λ k q. last-low k b))
+      let no-first = sum-zero (w - s) {f = first} (λ k q. first-other k (λ e. omega arith)) in
+      let one-turn = sum-only s second r h (λ k q n. other_row r c k (w - s + k) (λ e. n (sym e))) in
+      parts ∙ ap₂ plus (ap₂ plus no-first one-turn) (sum-zero s {f = last} (λ k q. last-low k b))
       ∙ xor_zero_r (plus 0 (second r)) ∙ adds-row r c (w - s + r)
 
   pub ldpc-last : s ≤ w → w ≤ c → r < s → ldpc s w p r c ≡ plus (unit c (w + r % p)) (unit c (w + (r + 1) % p))
   unfolding second last
   ldpc-last a b h =
-      parts
-      ∙ ap₂ plus
-      (ap₂ plus (sum-zero (w - s) {f = first} (λ k q. first-other k (λ e. omega arith))) (sum-zero s {f = second} (λ k q. other-column r c k (w - s + k) (λ e. omega arith))))
-      (sum-only s last r h (λ k q n. last-other k (λ e. n (sym e))))
+      let no-first = sum-zero (w - s) {f = first} (λ k q. first-other k (λ e. omega arith)) in
+      let no-second = sum-zero s {f = second} (λ k q. other-column r c k (w - s + k) (λ e. omega arith)) in
+      parts ∙ ap₂ plus (ap₂ plus no-first no-second) (sum-only s last r h (λ k q n. last-other k (λ e. n (sym e))))
       ∙ ap₂ plus (adds-row r c (w + r % p)) (adds-row r c (w + (r + 1) % p))
 
 -- ---- the ones do not meet
@@ -142,7 +144,8 @@ pub step-high : {s w p : ℕ} → Crosses s w p → (c : ℕ) → c < w - s → 
 step-high {s} {w} {p} k c h =
     let p : 0 < s = omega (arith, k.s-low) in
     let b : ceil (w - s) s ≤ s - 1 = omega (arith, k.b-high) in
-    omega (arith, (div-lt_iff_lt-mul {k = s} {x = c} {y = s - 1} p).1 (omega (arith, ceil-enough (w - s) s p, mul-le-mul_right {m = ceil (w - s) s} {n = s - 1} s b)))
+    let m : c < (s - 1) * s = omega (arith, ceil-enough (w - s) s p, mul-le-mul_right {m = ceil (w - s) s} {n = s - 1} s b) in
+    omega (arith, (div-lt_iff_lt-mul {k = s} {x = c} {y = s - 1} p).1 m)
 
 -- ---- so the crate's `set` agrees with the sums
 
@@ -202,6 +205,25 @@ module _ {s w p : ℕ} (k : Crosses s w p) (r : ℕ) (h : r < s) where
       ap₂ plus (unit-shift w i (r % p)) (unit-shift w i ((r + 1) % p))
       ∙ sym (ldpc-last s w p r (w + i) (omega (arith, k.b-low)) (omega arith) h)
       ∙ ap (λ (n : ℕ). ldpc s w p r (n + i)) e
+
+-- a one more in a run with a one, in another place
+pub two-ones : {xs ys : List ℕ} {at n x y j : ℕ} → Written (λ k. unit k x) xs ys at n → y < n → (x ≡ y → ⊥) → j ≡ at + y → at + n ≤ length xs
+    → Written (λ k. plus (unit k x) (unit k y)) xs (set ys j 1) at n
+two-ones {xs} {ys} {at} {n} {x} {y} {j} w h d e room =
+    record {
+      size = length-set ys j 1 ∙ w.size;
+      part = λ k l. go k l (ℕ_discrete k y);
+      low = λ k l. get_or-set_other ys j k 1 0 (λ z. omega arith) ∙ w.low k l;
+      high = λ k l. get_or-set_other ys j k 1 0 (λ z. omega arith) ∙ w.high k l;
+    }
+  where
+    go : (k : ℕ) → k < n → Dec (k ≡ y) → get_or (set ys j 1) (at + k) 0 ≡ plus (unit k x) (unit k y)
+    go k l (yes z) =
+        let i : at + k ≡ j = omega arith in
+        rw (i, get_or-set_same ys j 1 0 (omega (arith, w.size)), unit-other k x (λ q. d (sym q ∙ z)), unit-same k y z)
+    go k l (no z) =
+        get_or-set_other ys j (at + k) 1 0 (λ q. z (omega arith)) ∙ w.part k l
+        ∙ sym (ap (plus (unit k x)) (unit-other k y z) ∙ xor_zero_r (unit k x))
 
 -- the next column: its row one on, its step one more where the row began anew
 pub next-div : (c s : ℕ) → 0 < s → (c + 1) / s ≡ c / s + (c % s + 1) / s

@@ -7,16 +7,16 @@ use Prim.Native.Nat.{ℕ, ◌+◌, ◌<◌, ◌≤◌}
 use native.Mathlib.Omega.{arith}
 use borrow.Author.Tests.{le-ltb}
 use lib.ListN.{length, replicate}
-use Rattle.field.specs.Answer.{Outcome, Left, given}
+use Rattle.std.specs.Prelude.{Result}
+use Rattle.field.specs.Answer.{Outcome, Left, given, outcome}
+use Rattle.field.specs.declared.refusal.Refusal.{Refusal}
 use Rattle.headers.specs.Bytes.{Laid}
 use Rattle.headers.specs.Degree.{climb, degree}
-use Rattle.headers.specs.Number.{number_outcome}
 use Rattle.headers.specs.Prime.{clear, prime, seek, first_prime}
 use Rattle.headers.specs.Quotient.{ceil}
 use Rattle.headers.specs.Rand.{random}
 use Rattle.headers.specs.Row.{Obeys, p1_of, row_of, verified}
 use Rattle.headers.specs.Tuples.{Bounds, pi_degree, seed, tuple_of}
-use Rattle.headers.specs.declared.number.Number.{Number}
 use Rattle.headers.specs.declared.row.Row.{Row}
 use Rattle.headers.specs.declared.tuple.Tuple.{Tuple}
 use Rattle.headers.proofs.Rules.{obeyed}
@@ -46,8 +46,8 @@ thirty-two-met = (refl, refl, places_count wide (tuple_in highest wide 0))
 -- ---- a caller's own tuple
 
 -- in an accepted row, within its bounds and with room for its walk, it is refused by nothing
-pub walked-done : {r : Row} {t : Tuple} {xs ys : List ℕ} {a : Number} → Obeys r → Bounds r.w (p1_of r) t → t.d + t.d1 ≤ length xs
-    → Walked r t xs ys a → number_outcome a ≡ given (t.d + t.d1)
+pub walked-done : {r : Row} {t : Tuple} {xs ys : List ℕ} {a : Result ℕ Refusal} → Obeys r → Bounds r.w (p1_of r) t → t.d + t.d1 ≤ length xs
+    → Walked r t xs ys a → outcome a ≡ given (t.d + t.d1)
 walked-done {r} {t} {xs} o b room u =
     u.answer ∙ rw (obeyed o, is_true (bounded_tells r.w (p1_of r) t) b, le-ltb (length xs) (t.d + t.d1) room)
 
@@ -73,8 +73,8 @@ module _ {r : Row} (o : Obeys r) (w-low : 37 ≤ r.w) {a b a1 b1 : ℕ} (a_in : 
         b1-high = b1-in;
       }
 
-  pub own-walked : {xs ys : List ℕ} {n : Number} → 33 ≤ length xs → Walked r own xs ys n
-      → (number_outcome n ≡ given 33) × (length (places_of r own) ≡ 33) × Laid (places_of r own) xs ys 0
+  pub own-walked : {xs ys : List ℕ} {n : Result ℕ Refusal} → 33 ≤ length xs → Walked r own xs ys n
+      → (outcome n ≡ given 33) × (length (places_of r own) ≡ 33) × Laid (places_of r own) xs ys 0
   own-walked {xs} {ys} room u =
       let e = walked-done o own-bounds room u in
       (e, places_count r own, subst (λ (a : Outcome ℕ). Left a xs ys (Laid (places_of r own) xs ys 0)) e u.memory)

@@ -73,7 +73,8 @@ module _ {list xs : List ℕ} {at n l : ℕ} (m : Markable list xs at n l) where
           ap (λ (y : ℕ). get_or (set ys (at + x) 1) (at + y) 0) (sym z)
           ∙ get_or-set_same ys (at + x) 1 0 (omega (arith, w.size, m.room))
           ∙ sym (last c
-          ∙ ap₂ plus (sum-zero i (λ k s. unit-other c (get_or list k 0) (λ t. m.apart k i s h (sym t ∙ sym z ∙ e)))) (unit-same c (get_or list i 0) (sym z ∙ e)))
+          ∙ ap₂ plus (sum-zero i (λ k s. unit-other c (get_or list k 0) (λ t. m.apart k i s h (sym t ∙ sym z ∙ e))))
+          (unit-same c (get_or list i 0) (sym z ∙ e)))
       here c q b (no z) =
           get_or-set_other ys (at + x) (at + c) 1 0 (λ t. z (omega arith)) ∙ w.part c q
           ∙ sym (last c ∙ ap (plus (sofar list i c)) (unit-other c (get_or list i 0) (λ t. z (e ∙ sym t))) ∙ xor_zero_r (sofar list i c))

@@ -46,7 +46,10 @@ module _ (m : ℕ → ℕ) (octets : (k : ℕ) → m k < 256) where
   product_lt n j = sum_lt n (λ k h. times-lt (m k) (gamma k j))
 
   -- with a row of GAMMA more
-  product-more : (n j : ℕ) → product (suc n) j ≡ plus (product n j) (times (m n) (gamma n j))
+  abbrev and-row : ℕ → ℕ → ℕ
+  and-row n j = plus (product n j) (times (m n) (gamma n j))
+
+  product-more : (n j : ℕ) → product (suc n) j ≡ and-row n j
   product-more n j = sum-last n (λ k. times (m k) (gamma k j))
 
   -- GAMMA has nothing above its diagonal
@@ -63,7 +66,7 @@ module _ (m : ℕ → ℕ) (octets : (k : ℕ) → m k < 256) where
       ∙ ap (λ (x : ℕ). plus (times 2 x) (m j)) (sym (product-more n (suc j)))
     where
       go : (j < n → product n j ≡ plus (times 2 (product n (suc j))) (m j)) → Dec (j < n)
-          → plus (product n j) (times (m n) (gamma n j)) ≡ plus (times 2 (plus (product n (suc j)) (times (m n) (gamma n (suc j))))) (m j)
+          → and-row n j ≡ plus (times 2 (and-row n (suc j))) (m j)
       go ih (yes l) =
           let a : ℕ = product n (suc j) in
           let b : ℕ = times (m n) (gamma n (suc j)) in
@@ -72,13 +75,17 @@ module _ (m : ℕ → ℕ) (octets : (k : ℕ) → m k < 256) where
           ∙ ap (λ (x : ℕ). plus x (m j)) (sym (times-plus 2 a b))
       go ih (no l) =
           let e : n ≡ j = omega arith in
-          subst (λ (x : ℕ). plus (product n x) (times (m n) (gamma n x)) ≡ plus (times 2 (plus (product n (suc x)) (times (m n) (gamma n (suc x))))) (m x)) e
-          (rw (product_high n n (omega arith), product_high n (suc n) (omega arith), gamma-same n, gamma-high n (suc n) (omega arith), times-one (m n) (octets n), times_zero (m n), times_zero 2))
+          let here = product_high n n (omega arith) in
+          let next = product_high n (suc n) (omega arith) in
+          let above = gamma-high n (suc n) (omega arith) in
+          subst (λ (x : ℕ). and-row n x ≡ plus (times 2 (and-row n (suc x))) (m x)) e
+          (rw (here, next, gamma-same n, above, times-one (m n) (octets n), times_zero (m n), times_zero 2))
 
   -- each column is alpha times the next, and what MT has
   pub product-next : (n j : ℕ) → j < n → product n j ≡ plus (doubled (product n (j + 1))) (m j)
   product-next n j h =
-      step n j h ∙ ap (λ (x : ℕ). plus x (m j)) (sym (doubled-times (product n (suc j)) (product_lt n (suc j))) ∙ ap (λ (x : ℕ). doubled (product n x)) (sym (add-one j)))
+      let twice = sym (doubled-times (product n (suc j)) (product_lt n (suc j))) in
+      step n j h ∙ ap (λ (x : ℕ). plus x (m j)) (twice ∙ ap (λ (x : ℕ). doubled (product n x)) (sym (add-one j)))
 
   -- the last
   pub product-last : (n j : ℕ) → n ≡ j + 1 → product n j ≡ m j

@@ -1,14 +1,12 @@
 -- What the public calls answer and leave: enc_indices, and the HDPC rows (document 01, 'Tuple and indices', 'Matrices and slab').
 -- Assumes nothing.
-use Rattle.std.specs.Prelude.{◌≡◌, Bool, not, List, ℕ, ◌+◌, ◌-◌, ◌*◌, eqb, leb, ltb, length}
-use Rattle.field.specs.Answer.{Outcome, Left, done, given, unless, before}
+use Rattle.std.specs.Prelude.{◌≡◌, Bool, Result, not, List, ℕ, ◌+◌, ◌-◌, ◌*◌, eqb, leb, ltb, length}
+use Rattle.field.specs.Answer.{Outcome, Left, outcome, given, unless, before}
 use Rattle.field.specs.Choice.{both}
 use Rattle.field.specs.Runs.{Written}
 use Rattle.headers.specs.Bytes.{Laid}
-use Rattle.headers.specs.Number.{number_outcome}
 use Rattle.headers.specs.Row.{verified, between, l_of, p_of, p1_of}
-use Rattle.field.specs.declared.refusal.Answer as Plain
-use Rattle.headers.specs.declared.number.Number.{Number}
+use Rattle.field.specs.declared.refusal.Refusal.{Refusal}
 use Rattle.headers.specs.declared.row.Row.{Row}
 use Rattle.headers.specs.declared.tuple.Tuple.{Tuple}
 use Rattle.constraints.specs.Grid.{cells}
@@ -35,9 +33,9 @@ indices r t room =
     before (verified r) (unless (not (bounded r.w (p1_of r) t)) 2 (unless (ltb room (t.d + t.d1)) 8 (given (t.d + t.d1))))
 
 -- the places at the front of the list, or the list as it was
-pub record Walked (r : Row) (t : Tuple) (xs ys : List ℕ) (a : Number) : Type 0 where
-  pub answer : number_outcome a ≡ indices r t (length xs)
-  pub memory : Left (number_outcome a) xs ys (Laid (places_of r t) xs ys 0)
+pub record Walked (r : Row) (t : Tuple) (xs ys : List ℕ) (a : Result ℕ Refusal) : Type 0 where
+  pub answer : outcome a ≡ indices r t (length xs)
+  pub memory : Left (outcome a) xs ys (Laid (places_of r t) xs ys 0)
 
 -- may the HDPC rows be written? A row that breaks its rules, tables that are not 1,024 numbers, too short a store
 abbrev pub hdpc_room : Row → ℕ → ℕ → Outcome (Unit {0})
@@ -45,6 +43,6 @@ hdpc_room r tables room =
     before (verified r) (unless (not (eqb tables 1024)) 5 (unless (ltb room (r.h * l_of r)) 8 (given tt)))
 
 -- H rows of L octets at the front of the store, or the store as it was
-pub record HdpcRows (v : List ℕ) (r : Row) (xs ys : List ℕ) (a : Plain.Answer) : Type 0 where
-  pub answer : done a ≡ hdpc_room r (length v) (length xs)
-  pub memory : Left (done a) xs ys (Written (cells (l_of r) (hdpc_of v r)) xs ys 0 (r.h * l_of r))
+pub record HdpcRows (v : List ℕ) (r : Row) (xs ys : List ℕ) (a : Result (Unit {0}) Refusal) : Type 0 where
+  pub answer : outcome a ≡ hdpc_room r (length v) (length xs)
+  pub memory : Left (outcome a) xs ys (Written (cells (l_of r) (hdpc_of v r)) xs ys 0 (r.h * l_of r))

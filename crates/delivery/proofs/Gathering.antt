@@ -3,6 +3,7 @@
 use mathlib.Core.Path.{◌≡◌, refl, sym, ap, ap₂, ◌∙◌, subst}
 use mathlib.Core.Bool.{Bool, true, false}
 use mathlib.Core.List.{List, [], ◌∷◌, ◌++◌}
+use Rattle.std.specs.Prelude.{Result}
 use Prim.Native.Nat.{ℕ, zero, suc, ◌+◌, ◌-◌, ◌*◌, ◌/◌, ◌%◌, ◌≤◌, ◌<◌}
 use native.Mathlib.Nat.{add-sub_cancel_left, add-mul, add-zero, one-mul, div-add-mod'}
 use native.Mathlib.Numerals.{add-one}
@@ -16,7 +17,7 @@ use Rattle.field.specs.Answer.{Outcome, Left}
 use Rattle.field.specs.Runs.{Written}
 use Rattle.field.proofs.Writing.{written_is, written_from}
 use Rattle.field.proofs.Parts.{splice, part-is, part_length, written-part, written_then, block-ends}
-use Rattle.field.specs.declared.refusal.Answer as Plain
+use Rattle.field.specs.declared.refusal.Refusal.{Refusal}
 use Rattle.headers.specs.Row.{Obeys, l_of}
 use Rattle.headers.specs.Shift.{shifted}
 use Rattle.headers.specs.declared.row.Row.{Row}
@@ -172,7 +173,7 @@ module _ (v : List ℕ) (r : Row) (k t i from : ℕ) (C ys : List ℕ) (o : Obey
     fits = omega (arith, long);
   }
 
-  encodes-it : {zs : List ℕ} {a : Plain.Answer} → Encodes v r k t i C (take t (drop from ys)) zs a → Written (encoded v r (shifted i k r.kp) t C)
+  encodes-it : {zs : List ℕ} {a : Result (Unit {0}) Refusal} → Encodes v r k t i C (take t (drop from ys)) zs a → Written (encoded v r (shifted i k r.kp) t C)
       (take t (drop from ys)) zs 0 t
   encodes-it {zs} u =
       subst (λ (p : Outcome (Unit {0})). Left p (take t (drop from ys)) zs (Written (encoded v r (shifted i k r.kp) t C) (take t (drop from ys)) zs 0 t))
@@ -183,7 +184,7 @@ module _ (v : List ℕ) (r : Row) (k t i from : ℕ) (C ys : List ℕ) (o : Obey
       ap (λ (n : ℕ). encoded v r n t C x) (shifted-below k r.kp i below)
       ∙ ap₂ (λ (n y : ℕ). encoded v r n t C y) (sym (digits_div i l)) (sym (digits_mod i l))
 
-  pub block_more : {xs zs : List ℕ} {a : Plain.Answer} → Written (source_octet v r t C) xs ys 0 (i * t) → Encodes v r k t i C
+  pub block_more : {xs zs : List ℕ} {a : Result (Unit {0}) Refusal} → Written (source_octet v r t C) xs ys 0 (i * t) → Encodes v r k t i C
       (take (from + t - from) (drop from ys)) zs a
       → Written (source_octet v r t C) xs (splice ys from (from + t - from) zs) 0 ((i + 1) * t)
   block_more w u =

@@ -3,6 +3,7 @@
 use mathlib.Core.Path.{◌≡◌, refl, sym, ap, ap₂, ◌∙◌, subst}
 use mathlib.Core.Bool.{true}
 use mathlib.Core.List.{List}
+use Rattle.std.specs.Prelude.{Ok, Err}
 use Prim.Native.Nat.{ℕ, ◌+◌, ◌*◌, ◌≤◌, ◌<◌}
 use native.Mathlib.Nat.{zero-add}
 use native.Mathlib.Omega.{arith}
@@ -34,12 +35,11 @@ use Rattle.solver.specs.System.{hdpc_rows, sent_row, arrival_rows}
 use Rattle.solver.proofs.Groups.{has-arrivals}
 use Rattle.delivery.specs.Layout.{row_in, tables_of, f_of, k_of, t_of, n_of, packet_at, packet_of, is_own, esi_of, esis_in, esis_of, symbols_of}
 use Rattle.delivery.specs.Screen.{stop_of}
-use Rattle.delivery.specs.Received.{Comes, Concluded, source_octet, delivered_system}
+use Rattle.delivery.specs.Received.{Comes, Concluding, Received, delivered_system, source_octet, taken}
 use Rattle.delivery.specs.declared.beneath.packets.Passed.{Passed}
 use Rattle.delivery.specs.declared.beneath.screen.Stop.{Stop}
 use Rattle.delivery.specs.declared.beneath.screen.Stop.TheVariants as Stops
-use Rattle.delivery.specs.declared.beneath.receiver.Received.{Received}
-use Rattle.delivery.specs.declared.beneath.receiver.Received.TheVariants.{Taken, Stopped}
+use Rattle.delivery.specs.declared.beneath.receiver.Concluded.{Concluded}
 use Rattle.delivery.proofs.Screening.{sound}
 use Rattle.delivery.proofs.Gathering.{packet-ends, packets-in, symbols-long, esi-there, symbol-there}
 
@@ -80,33 +80,33 @@ pub stop-only : (a b : Stop) → stop_of a ≡ stop_of b → a ≡ b
 stop-only = read_back stop_of stopped stop-back
 
 -- two sets that are solved are one, so the block of the one is that of the other
-module _ {r : Row} {v : List ℕ} {k t : ℕ} {S : System ℕ} {xs ys us vs : List ℕ} (a : Concluded r v k t S xs ys Solved)
-    (b : Concluded r v k t S us vs Solved) where
+module _ {r : Row} {v : List ℕ} {k t : ℕ} {S : System ℕ} {xs ys us vs : List ℕ} (a : Concluding r v k t S xs ys Solved)
+    (b : Concluding r v k t S us vs Solved) where
   same_block : Written (source_octet v r t (take (l_of r * t) a.set)) us vs 0 (k * t)
   same_block =
       let e : take (l_of r * t) b.set ≡ take (l_of r * t) a.set = a.means.0.only (take (l_of r * t) b.set) b.means.0.block b.means.0.fits in
       subst (λ (C : List ℕ). Written (source_octet v r t C) us vs 0 (k * t)) e b.leaves
 
 concluded-once : {r : Row} {v : List ℕ} {k t : ℕ} {S : System ℕ} {xs ys zs : List ℕ}
-    (w : Verdict) → Concluded r v k t S xs ys w → Concluded r v k t S xs zs w → ys ≡ zs
+    (w : Verdict) → Concluding r v k t S xs ys w → Concluding r v k t S xs zs w → ys ≡ zs
 concluded-once Solved a b = written_once a.leaves (same_block a b)
 concluded-once Contradiction a b = a.leaves ∙ sym b.leaves
 concluded-once (Open s) a b = a.leaves ∙ sym b.leaves
 
 -- a delivery comes to one thing, whatever the store held before
 pub comes-only : (d xs ys us vs : List ℕ) (o p : Received) → Comes d xs ys o → Comes d us vs p → o ≡ p
-comes-only d xs ys us vs (Taken v m p) (Taken w n q) a b =
+comes-only d xs ys us vs (Ok c) (Ok e) a b =
     let x = a.1.2 in
     let y = b.1.2 in
-    let e = verdict-once (l_of (row_in d)) (t_of d) (delivered_system d) x.was x.set y.was y.set v w x.means y.means in
-    ap (λ (u : Verdict). Taken u m p) e ∙ ap₂ (Taken w) (a.1.0 ∙ sym b.1.0) (a.1.1 ∙ sym b.1.1)
-comes-only d xs ys us vs (Taken v m _) (Stopped q) a b = absurd (given-not-refused tt (stop_of q) (sym a.0 ∙ b.0))
-comes-only d xs ys us vs (Stopped p) (Taken w n _) a b = absurd (given-not-refused tt (stop_of p) (sym b.0 ∙ a.0))
-comes-only d xs ys us vs (Stopped p) (Stopped q) a b = ap Stopped (stop-only p q (refused-only (stop_of p) (stop_of q) (sym a.0 ∙ b.0)))
+    let q = verdict-once (l_of (row_in d)) (t_of d) (delivered_system d) x.was x.set y.was y.set c.verdict e.verdict x.means y.means in
+    ap (λ (u : Verdict). taken u c.size c.passed) q ∙ ap₂ (taken e.verdict) (a.1.0 ∙ sym b.1.0) (a.1.1 ∙ sym b.1.1)
+comes-only d xs ys us vs (Ok c) (Err q) a b = absurd (given-not-refused tt (stop_of q) (sym a.0 ∙ b.0))
+comes-only d xs ys us vs (Err p) (Ok e) a b = absurd (given-not-refused tt (stop_of p) (sym b.0 ∙ a.0))
+comes-only d xs ys us vs (Err p) (Err q) a b = ap Err (stop-only p q (refused-only (stop_of p) (stop_of q) (sym a.0 ∙ b.0)))
 
 store-once : (d xs ys zs : List ℕ) (o : Received) → Comes d xs ys o → Comes d xs zs o → ys ≡ zs
-store-once d xs ys zs (Taken v n p) a b = concluded-once v a.1.2 b.1.2
-store-once d xs ys zs (Stopped why) a b = a.1 ∙ sym b.1
+store-once d xs ys zs (Ok c) a b = concluded-once c.verdict a.1.2 b.1.2
+store-once d xs ys zs (Err why) a b = a.1 ∙ sym b.1
 
 -- any two results that the contract allows are the same, verdict and store
 pub comes-once : (d xs ys zs : List ℕ) (o p : Received) → Comes d xs ys o → Comes d xs zs p → (o ≡ p) × (ys ≡ zs)
@@ -116,13 +116,13 @@ comes-once d xs ys zs o p a b =
 
 -- ---- the object
 
-module _ (d : List ℕ) {xs ys us vs : List ℕ} {m n : ℕ} {p q : Passed} (a : Comes d xs ys (Taken Solved m p)) (b : Comes d us vs (Taken Solved n q)) where
+module _ (d : List ℕ) {xs ys us vs : List ℕ} {m n : ℕ} {p q : Passed} (a : Comes d xs ys (taken Solved m p)) (b : Comes d us vs (taken Solved n q)) where
   -- its bytes do not depend on what the store held before
   pub object-once : (x : ℕ) → x < k_of d * t_of d → get_or ys x 0 ≡ get_or vs x 0
   object-once x h = rw zero-add at (a.1.2.leaves.part x h ∙ sym ((same_block a.1.2 b.1.2).part x h))
 
 -- it is no longer than the block
-module _ (d : List ℕ) {xs ys : List ℕ} {v : Verdict} {n : ℕ} {p : Passed} (a : Comes d xs ys (Taken v n p)) where
+module _ (d : List ℕ) {xs ys : List ℕ} {v : Verdict} {n : ℕ} {p : Passed} (a : Comes d xs ys (taken v n p)) where
   pub object-in : n ≤ k_of d * t_of d
   object-in = omega (arith, a.1.0, ceil-enough (f_of d) (t_of d) (sound d a.0).t-low)
 
@@ -153,7 +153,7 @@ module _ (d : List ℕ) (p b : ℕ) (h : p < n_of d) (own : is_own (packet_of d 
       ∙ get_or-drop 4 (packet_of d (t_of d) p) b 0 ∙ part_at d (packet_at (t_of d) p) (t_of d + 4) (4 + b) (omega arith) ∙ ap (λ (x : ℕ). get_or d x 0) e
 
   -- byte b of the source symbol that packet p brought
-  pub arrivals-stand : {xs ys : List ℕ} {n : ℕ} {q : Passed} → Comes d xs ys (Taken Solved n q)
+  pub arrivals-stand : {xs ys : List ℕ} {n : ℕ} {q : Passed} → Comes d xs ys (taken Solved n q)
       → get_or ys (esi_of (packet_of d (t_of d) p) * t_of d + b) 0 ≡ get_or d (packet_at (t_of d) p + 4 + b) 0
   arrivals-stand {ys = ys} a =
       let w = a.1.2 in

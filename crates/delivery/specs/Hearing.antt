@@ -1,6 +1,6 @@
 -- A delivery heard packet by packet (docs/DELIVERY.md), in the lent memory of an intake: a state, pivots, rows and symbols.
 -- Assumes nothing.
-use Rattle.std.specs.Prelude.{◌≡◌, List, ℕ, ◌+◌, ◌*◌, ◌≤◌, ◌<◌, length}
+use Rattle.std.specs.Prelude.{◌≡◌, List, Result, Ok, Err, ℕ, ◌+◌, ◌*◌, ◌≤◌, ◌<◌, length}
 use Rattle.field.specs.Answer.{given, refused}
 use Rattle.field.specs.Choice.{pick}
 use Rattle.headers.specs.Row.{Obeys}
@@ -8,18 +8,41 @@ use Rattle.intake.specs.Night.{Holding, Stretch, arrived}
 use Rattle.intake.specs.State.{k_in, l_in, row_in as State·row_in, t_in}
 use Rattle.delivery.specs.Layout.{row_in, tables_of, f_of, k_of, t_of, n_of, esi_of, symbol_of, is_own, esis_in, symbols_in}
 use Rattle.delivery.specs.Screen.{screen, stop_of}
-use Rattle.delivery.specs.Received.{Concludes}
+use Rattle.delivery.specs.Received.{Concludes, Received}
 use Rattle.delivery.specs.declared.beneath.packets.Passed.{Passed}
-use Rattle.delivery.specs.declared.beneath.receiver.Opened.{Opened}
-use Rattle.delivery.specs.declared.beneath.receiver.Opened.TheVariants as Openeds
-use Rattle.delivery.specs.declared.beneath.receiver.Received.{Received}
+use Rattle.delivery.specs.declared.beneath.screen.Stop.{Stop}
+use Rattle.delivery.specs.declared.beneath.receiver.Memory.{Memory}
+use Rattle.delivery.specs.declared.beneath.receiver.Ready.{Ready}
 
--- lent memory of so many words, places and octets
-pub record Roomy (state pivots rows values : ℕ) : Type 0 where
-  pub state-room : 1037 ≤ state
-  pub pivots-room : 300 ≤ pivots
-  pub rows-room : 90000 ≤ rows
-  pub values-room : 307200 ≤ values
+-- ---- the lent memory
+
+-- there is room for every delivery that is taken
+pub record Roomy (m : Memory) : Type 0 where
+  pub state-room : 1037 ≤ length m.state.now
+  pub pivots-room : 300 ≤ length m.pivots.now
+  pub rows-room : 90000 ≤ length m.rows.now
+  pub values-room : 307200 ≤ length m.values.now
+
+-- it is the memory that it was, and as large
+pub record StaysLent (m m₁ : Memory) : Type 0 where
+  pub state : m₁.state.ghost_name ≡ m.state.ghost_name
+  pub pivots : m₁.pivots.ghost_name ≡ m.pivots.ghost_name
+  pub rows : m₁.rows.ghost_name ≡ m.rows.ghost_name
+  pub values : m₁.values.ghost_name ≡ m.values.ghost_name
+  pub state-size : length m₁.state.now ≡ length m.state.now
+  pub pivots-size : length m₁.pivots.now ≡ length m.pivots.now
+  pub rows-size : length m₁.rows.now ≡ length m.rows.now
+  pub values-size : length m₁.values.now ≡ length m.values.now
+
+-- pivots, rows and symbols are as they were
+abbrev pub StoresStay : Memory → Memory → Type 0
+StoresStay m m₁ = (m₁.pivots.now ≡ m.pivots.now) × (m₁.rows.now ≡ m.rows.now) × (m₁.values.now ≡ m.values.now)
+
+-- it holds what came of a stretch
+abbrev pub Held : Stretch → Memory → Type 0
+Held z m = Holding z m.state.now m.pivots.now m.rows.now m.values.now
+
+-- ---- what is heard
 
 -- a delivery, of which the first n packets were heard
 abbrev pub stretch_at : List ℕ → ℕ → Stretch
@@ -41,18 +64,18 @@ abbrev pub hearing : Stretch → List ℕ → Stretch
 hearing z p = pick (is_own p) (arrived z (esi_of p) (symbol_of p)) z
 
 -- what was held is held with that packet
-abbrev pub HearsMore : (p st ps a d st₁ ps₁ a₁ d₁ : List ℕ) → Type 0
-HearsMore p st ps a d st₁ ps₁ a₁ d₁ = (z : Stretch) → length p ≡ z.t + 4 → Holding z st ps a d → Holding (hearing z p) st₁ ps₁ a₁ d₁
+abbrev pub HearsMore : List ℕ → Memory → Memory → Type 0
+HearsMore p m m₁ = (z : Stretch) → length p ≡ z.t + 4 → Held z m → Held (hearing z p) m₁
 
 -- The first 4,128 bytes of h were read: T and F are told, and nothing was heard yet; or the reason why not, and the state is as it was.
-abbrev pub Opens : (h st ps a d st₁ : List ℕ) → Opened → Type 0
-Opens h st ps a d st₁ (Openeds.Ready t f) = (screen h ≡ given tt) × (t ≡ t_of h) × (f ≡ f_of h) × Holding (stretch_at h 0) st₁ ps a d
-Opens h st ps a d st₁ (Openeds.Stopped why) = (screen h ≡ refused (stop_of why)) × (st₁ ≡ st)
+abbrev pub Opens : List ℕ → Memory → Memory → Result Ready Stop → Type 0
+Opens h m m₁ (Ok r) = (screen h ≡ given tt) × (r.symbol_size ≡ t_of h) × (r.object_size ≡ f_of h) × Held (stretch_at h 0) m₁
+Opens h m m₁ (Err why) = (screen h ≡ refused (stop_of why)) × (m₁.state.now ≡ m.state.now)
 
 -- how large they are
-abbrev pub OpenedSmall : Opened → Type 0
-OpenedSmall (Openeds.Ready t f) = (t ≤ 1024) × (f ≤ 307200)
-OpenedSmall (Openeds.Stopped why) = Unit {0}
+abbrev pub OpenedSmall : Result Ready Stop → Type 0
+OpenedSmall (Ok r) = (r.symbol_size ≤ 1024) × (r.object_size ≤ 307200)
+OpenedSmall (Err why) = Unit {0}
 
 -- what rebuilding asks of the state, of a store for the set and of one for the block
 pub record Restorable (st : List ℕ) (set out : ℕ) : Type 0 where
@@ -65,6 +88,5 @@ pub record Restorable (st : List ℕ) (set out : ℕ) : Type 0 where
   pub room : set ≤ out
 
 -- what comes of whatever was held, f bytes of an object, where p was passed over
-abbrev pub ConcludesHeld : (st ps a d : List ℕ) (f : ℕ) → Passed → (xs ys : List ℕ) → Received → Type 0
-ConcludesHeld st ps a d f p xs ys o =
-    (z : Stretch) → Holding z st ps a d → Concludes z.row z.tables z.k z.t f p z.esis z.symbols xs ys o
+abbrev pub ConcludesHeld : Memory → (f : ℕ) → Passed → (xs ys : List ℕ) → Received → Type 0
+ConcludesHeld m f p xs ys o = (z : Stretch) → Held z m → Concludes z.row z.tables z.k z.t f p z.esis z.symbols xs ys o

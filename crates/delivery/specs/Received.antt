@@ -1,6 +1,6 @@
 -- What comes of a delivery (docs/DELIVERY.md).
 -- Assumes nothing.
-use Rattle.std.specs.Prelude.{◌≡◌, List, ℕ, ◌*◌, ◌/◌, ◌%◌, ◌≤◌, ◌<◌, length, take}
+use Rattle.std.specs.Prelude.{◌≡◌, List, Result, Ok, Err, ℕ, ◌*◌, ◌/◌, ◌%◌, ◌≤◌, ◌<◌, length, take}
 use Rattle.field.specs.Answer.{given, refused}
 use Rattle.field.specs.Runs.{Written}
 use Rattle.headers.specs.Row.{Obeys, l_of}
@@ -14,8 +14,8 @@ use Rattle.solver.specs.System.{system_of}
 use Rattle.delivery.specs.Layout.{row_in, tables_of, f_of, k_of, t_of, esis_of, symbols_of, passed_of}
 use Rattle.delivery.specs.Screen.{screen, stop_of}
 use Rattle.delivery.specs.declared.beneath.packets.Passed.{Passed}
-use Rattle.delivery.specs.declared.beneath.receiver.Received.{Received}
-use Rattle.delivery.specs.declared.beneath.receiver.Received.TheVariants.{Taken, Stopped}
+use Rattle.delivery.specs.declared.beneath.screen.Stop.{Stop}
+use Rattle.delivery.specs.declared.beneath.receiver.Concluded.{Concluded}
 
 -- byte x of the source symbols, one after the other: the ISIs below K are theirs (RFC 6330, 5.3.3.4.2 and 5.3.5.3)
 abbrev pub source_octet : List ℕ → Row → ℕ → List ℕ → ℕ → ℕ
@@ -38,16 +38,23 @@ Leaves v r k t C xs ys (Open s) = ys ≡ xs
 
 -- A verdict on the system S of a block: what it means is the solver's word, of its store of symbols before, `was`, and after, `set`. The K source symbols
 -- of a set that is solved, the object and its padding, stand at the front of our store, xs before and ys after.
-pub record Concluded (r : Row) (v : List ℕ) (k t : ℕ) (S : System ℕ) (xs ys : List ℕ) (verdict : Verdict) : Type 0 where
+pub record Concluding (r : Row) (v : List ℕ) (k t : ℕ) (S : System ℕ) (xs ys : List ℕ) (verdict : Verdict) : Type 0 where
   pub was : List ℕ
   pub set : List ℕ
   pub means : Means (l_of r) t S was set verdict
   pub leaves : Leaves v r k t (take (l_of r * t) set) xs ys verdict
 
+-- what comes of a delivery: what was concluded of it, or why it is not taken
+abbrev pub Received : Type 0
+Received = Result Concluded Stop
+
+abbrev pub taken : Verdict → ℕ → Passed → Received
+taken v n p = Ok (record { verdict = v; size = n; passed = p })
+
 -- what comes of a block of f bytes whose packets have the ESIs es and the symbols zs, where p was passed over
 abbrev pub Concludes : Row → List ℕ → (k t f : ℕ) → Passed → (es zs xs ys : List ℕ) → Received → Type 0
-Concludes r v k t f p es zs xs ys (Taken verdict n q) = (n ≡ f) × (q ≡ p) × Concluded r v k t (system_of r v k t es zs) xs ys verdict
-Concludes r v k t f p es zs xs ys (Stopped why) = ⊥
+Concludes r v k t f p es zs xs ys (Ok c) = (c.size ≡ f) × (c.passed ≡ p) × Concluding r v k t (system_of r v k t es zs) xs ys c.verdict
+Concludes r v k t f p es zs xs ys (Err why) = ⊥
 
 -- the system of a delivery: that of its row, tables, K, T, and of the packets of its block
 abbrev pub delivered_system : List ℕ → System ℕ
@@ -59,10 +66,10 @@ Heard d xs ys = Concludes (row_in d) (tables_of d) (k_of d) (t_of d) (f_of d) (p
 
 -- The contract. A delivery that is not taken changes nothing; one that is taken has the verdict on its system.
 abbrev pub Comes : (d xs ys : List ℕ) → Received → Type 0
-Comes d xs ys (Taken verdict n p) = (screen d ≡ given tt) × Heard d xs ys (Taken verdict n p)
-Comes d xs ys (Stopped why) = (screen d ≡ refused (stop_of why)) × (ys ≡ xs)
+Comes d xs ys (Ok c) = (screen d ≡ given tt) × Heard d xs ys (Ok c)
+Comes d xs ys (Err why) = (screen d ≡ refused (stop_of why)) × (ys ≡ xs)
 
 -- the object is no longer than m bytes
 abbrev pub InRoom : ℕ → Received → Type 0
-InRoom m (Taken verdict n p) = n ≤ m
-InRoom m (Stopped why) = Unit {0}
+InRoom m (Ok c) = c.size ≤ m
+InRoom m (Err why) = Unit {0}

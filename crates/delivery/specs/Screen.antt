@@ -1,6 +1,6 @@
 -- When a delivery is taken (docs/DELIVERY.md): the first thing wrong with it, in the order in which its bytes are read. Its first 4,128 bytes decide.
 -- Assumes nothing.
-use Rattle.std.specs.Prelude.{not, List, ℕ, eqb, ltb, length}
+use Rattle.std.specs.Prelude.{not, List, Result, Ok, Err, ℕ, eqb, ltb, length}
 use Rattle.field.specs.Answer.{Outcome, given, refused, unless, before, code_of}
 use Rattle.headers.specs.Headers.{info_checked}
 use Rattle.headers.specs.Row.{verified, l_of}
@@ -9,8 +9,6 @@ use Rattle.headers.specs.declared.transmission.ObjectTransmissionInformation.{Ob
 use Rattle.delivery.specs.Layout.{info_of, row_in, t_of, k_of}
 use Rattle.delivery.specs.declared.beneath.screen.Stop.{Stop}
 use Rattle.delivery.specs.declared.beneath.screen.Stop.TheVariants as Stops
-use Rattle.delivery.specs.declared.beneath.screen.Screened.{Screened}
-use Rattle.delivery.specs.declared.beneath.screen.Screened.TheVariants as Screeneds
 
 -- the codes of refusals, and two numbers that are none of them for what this program alone does not take
 abbrev pub stop_of : Stop → ℕ
@@ -18,9 +16,9 @@ stop_of (Stops.Refused why) = code_of why
 stop_of Stops.TooLarge = 101
 stop_of Stops.SeveralBlocks = 102
 
-abbrev pub screened : Screened → Outcome (Unit {0})
-screened Screeneds.Passed = given tt
-screened (Screeneds.Stopped why) = refused (stop_of why)
+abbrev pub screened : Result (Unit {0}) Stop → Outcome (Unit {0})
+screened (Ok _) = given tt
+screened (Err why) = refused (stop_of why)
 
 -- one block, of one sub-block
 abbrev pub shape_screen : ObjectTransmissionInformation → Outcome (Unit {0})

@@ -9,7 +9,7 @@ use native.Mathlib.Omega.{arith}
 use lib.Bits.{xor_zero_r}
 use lib.ListN.{length, get_or, take, drop}
 use Rattle.field.specs.Octet.{plus, times, inverse}
-use Rattle.field.specs.Runs.{Written, fused, scaled}
+use Rattle.field.specs.Runs.{Written, fused}
 use Rattle.field.proofs.Laws.{one-times, times_zero}
 use Rattle.field.proofs.Parts.{part_length, part_at}
 use Rattle.field.proofs.Writing.{written_as, written_is, written_same}
@@ -52,9 +52,6 @@ pub onto-symbol : (t k f : ℕ) (a : List ℕ) {y y₁ : List ℕ} → k * t + t
 onto-symbol t k f a {y} h u =
     onto-all k 0 f a y (omega arith) (λ b l. absurd (omega arith))
     (onto-part t k 0 f a (k * t) (k * t + t - k * t) (omega arith) (omega arith) (omega arith) h u)
-
-pub times-by : {g x : ℕ} {d d₁ : List ℕ} → x ≡ g → Written (scaled x d) d d₁ 0 (length d) → Times g d d₁
-times-by {g} {x} {d} e w = written_as w (λ c h. ap (λ (z : ℕ). times z (get_or d c 0)) e)
 
 -- what is 1 there stays as it is
 pub times_none : {f : ℕ} {d : List ℕ} → Bytes d → f ≡ 1 → Times (inverse f) d d

@@ -80,7 +80,8 @@ copied_behind w r x {a} {a₁} fits s i h c l = go (ℕ_discrete i r)
     go : Dec (i ≡ r) → cell w a₁ i c ≡ cell w (behind w r a x) i c
     go (yes e) =
         let q : 0 * w + c ≡ c = omega arith in
-        ap (λ (z : ℕ). cell w a₁ z c) e ∙ s.part c l ∙ ap (λ (z : ℕ). get_or x z 0) q ∙ sym (behind-new w r a x fits c) ∙ ap (λ (z : ℕ). cell w (behind w r a x) z c) (sym e)
+        ap (λ (z : ℕ). cell w a₁ z c) e ∙ s.part c l ∙ ap (λ (z : ℕ). get_or x z 0) q ∙ sym (behind-new w r a x fits c)
+        ∙ ap (λ (z : ℕ). cell w (behind w r a x) z c) (sym e)
     go (no n) = row_other r s i n c l ∙ sym (behind-row w r a x fits i (omega arith) c l)
 
 times-behind : (w r f : ℕ) (a : List ℕ) {x x₁ : List ℕ} → r * w ≤ length a → length x ≡ w → Times f x x₁ → RowTimes w r f (behind w r a x) (behind w r a x₁)
@@ -103,7 +104,8 @@ lodged {L} {T} {r} {c} {ps} {a} {d} {x} {y} {x₁} {y₁} {a₁} {d₁} place wi
     -- entry k of the row that is held
     entry : (k : ℕ) → k < L → cell L a₁ r k ≡ times f (get_or x k 0)
     entry k h =
-        copied_behind L r x₁ fa ca r (omega arith) k h ∙ behind-new L r a x₁ fa k ∙ ap (λ (m : ℕ). get_or x₁ m 0) (sym (zero-add k)) ∙ tx.part k (omega (arith, wide.row))
+        copied_behind L r x₁ fa ca r (omega arith) k h ∙ behind-new L r a x₁ fa k ∙ ap (λ (m : ℕ). get_or x₁ m 0) (sym (zero-add k))
+        ∙ tx.part k (omega (arith, wide.row))
 
     zero-entry : (k : ℕ) → k < L → get_or x k 0 ≡ 0 → cell L a₁ r k ≡ 0
     zero-entry k h e = entry k h ∙ ap (times f) e ∙ times_zero f
@@ -115,13 +117,15 @@ lodged {L} {T} {r} {c} {ps} {a} {d} {x} {y} {x₁} {y₁} {a₁} {d₁} place wi
     before i h k l = row_other r ca i (λ e. omega arith) k l
 
     stands' : Fresh r c ps x → Stepped L r (column ps) a d → Stepped L (r + 1) (column (set ps r c)) a₁ d₁
-    stands' n s = stepped-more (column ps) (column (set ps r c)) (λ k h. get_or-set_other ps r k c 0 (λ e. omega arith)) (get_or-set_same ps r c 0 place.pivots) hc
+    stands' n s = stepped-more (column ps) (column (set ps r c))
+        (λ k h. get_or-set_other ps r k c 0 (λ e. omega arith)) (get_or-set_same ps r c 0 place.pivots) hc
         (entry c hc ∙ undoes n.other) (λ k h. zero-entry k (omega arith) (n.low k h)) (λ k h. zero-entry (column ps k) (s.column k h) (n.gone k h))
         (stepped-agree before ba bd s)
 
     says' : get_or x c 0 ≢ 0 → (S : System ℕ) → Holds (r + 1) L T S (behind L r a x) (behind T r d y) → Holds (r + 1) L T S a₁ d₁
     says' nz S h = holds_agree (copied_behind L r x₁ fa ca) (copied_behind T r y₁ fd cd) (holds_kept h
-        (keeps-scaled r f (get_or x c 0) (omega arith) (times-comm (get_or x c 0) f ∙ undoes nz) (times-behind L r f a fa wide.row tx) (times-behind T r f d fd wide.symbol ty)))
+        (keeps-scaled r f (get_or x c 0) (omega arith) (times-comm (get_or x c 0) f ∙ undoes nz)
+        (times-behind L r f a fa wide.row tx) (times-behind T r f d fd wide.symbol ty)))
 
 -- nothing else changed
 pub put_in : {L T r : ℕ} (c : ℕ) (x₁ y₁ : List ℕ) {ps a d a₁ d₁ : List ℕ} → RoomForOne L T r ps a d → RowCopied L r 0 x₁ a a₁ → RowCopied T r 0 y₁ d d₁

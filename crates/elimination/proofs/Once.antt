@@ -40,7 +40,8 @@ means-once L T S o o₁ o₂ v w a b =
 
 -- two stores of octets hold the equations that stand in them
 pub holds-stored : (M L T : ℕ) (a d : List ℕ) → Holds M L T (stored_system M L T a d) a d
-holds-stored M L T a d = holds-included (λ i h. (i, h, record { coefs = λ c l. refl; bytes = λ t l. refl })) (λ i h. (i, h, record { coefs = λ c l. refl; bytes = λ t l. refl }))
+holds-stored M L T a d =
+    holds-included (λ i h. (i, h, record { coefs = λ c l. refl; bytes = λ t l. refl })) (λ i h. (i, h, record { coefs = λ c l. refl; bytes = λ t l. refl }))
 
 pub stored-octets : (M L T : ℕ) (a d : List ℕ) → Bytes d → OctetSymbols T (stored_system M L T a d)
 stored-octets M L T a d b = record { below = λ i h t l. b _ }
@@ -50,5 +51,7 @@ pub answered-once : (M L T : ℕ) {a d o a₁ d₁ o₁ a₂ d₂ o₂ : List �
     → Answered M L T a d o a₁ d₁ o₁ v → Answered M L T a d o a₂ d₂ o₂ w → (v ≡ w) × (o₁ ≡ o₂) × (a₁ ≡ a₂) × (d₁ ≡ d₂)
 answered-once M L T {a} {d} {o} {a₁} {d₁} {o₁} {a₂} {d₂} {o₂} {v} {w} b x y =
     let S : System ℕ = stored_system M L T a d in
-    let e = means-once L T S o o₁ o₂ v w (x.answer S (stored-octets M L T a d b) (holds-stored M L T a d)) (y.answer S (stored-octets M L T a d b) (holds-stored M L T a d)) in
+    let small = stored-octets M L T a d b in
+    let first = holds-stored M L T a d in
+    let e = means-once L T S o o₁ o₂ v w (x.answer S small first) (y.answer S small first) in
     (e.0, e.1, written_once x.rows y.rows, written_once x.symbols y.symbols)

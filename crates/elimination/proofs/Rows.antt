@@ -9,7 +9,11 @@ use native.Mathlib.Decide.{ℕ_discrete}
 use borrow.Author.Tests.{eq-eqb, ne_eqb}
 use lib.ListN.{length, get_or}
 use Rattle.field.specs.Octet.{doubled, copies, times, squares, inverse, over}
-use Rattle.field.specs.Answer.{given, refused, divided}
+use Rattle.std.specs.Prelude.{Result, Ok, Err}
+use Rattle.std.specs.Result.{result_unwrap_or}
+use Rattle.field.specs.Answer.{code_of, outcome, divided}
+use Rattle.field.specs.declared.refusal.Refusal.{Refusal}
+use Rattle.field.proofs.Answers.{given-only, given-not-refused}
 use Rattle.field.specs.Runs.{Apart, Written}
 use Rattle.field.proofs.Laws.{one-times, inverse-lt}
 use Rattle.field.proofs.Parts.{block-ends, blocks-apart}
@@ -44,24 +48,12 @@ over-one : (x : ℕ) → over 1 x ≡ inverse x
 unfolding over
 over-one x = one-times (inverse x) (inverse-lt x)
 
--- 1 divided by x, where that is answered and where it is refused
-pub quotient-inverse : (x y : ℕ) → given y ≡ divided 1 x → y ≡ inverse x
-quotient-inverse x y e = go (ℕ_discrete x 0)
+-- what a division of 1 answers, or 0 where it is refused
+pub unwrapped-inverse : (x : ℕ) (q : Result ℕ Refusal) → outcome q ≡ divided 1 x → result_unwrap_or q 0 ≡ inverse x
+unwrapped-inverse x q e = go (ℕ_discrete x 0) q e
   where
-    go : Dec (x ≡ 0) → y ≡ inverse x
-    go (yes z) =
-        let q : given y ≡ refused 1 = rw (eq-eqb x 0 z) at e in
-        absurd (let u : ◌≡◌ {A = ℕ} 0 1 = cc in omega arith)
-    go (no n) =
-        let q : given y ≡ given (over 1 x) = rw (ne_eqb x 0 n) at e in
-        let u : y ≡ over 1 x = cc in
-        u ∙ over-one x
-
-pub refused-inverse : (x : ℕ) {n : ℕ} → refused n ≡ divided 1 x → 0 ≡ inverse x
-refused-inverse x {n} e = go (ℕ_discrete x 0)
-  where
-    go : Dec (x ≡ 0) → 0 ≡ inverse x
-    go (yes z) = sym (ap inverse z ∙ inverse-zero)
-    go (no m) =
-        let q : refused n ≡ given (over 1 x) = rw (ne_eqb x 0 m) at e in
-        absurd (let u : ◌≡◌ {A = ℕ} 0 1 = cc in omega arith)
+    go : Dec (x ≡ 0) → (q : Result ℕ Refusal) → outcome q ≡ divided 1 x → result_unwrap_or q 0 ≡ inverse x
+    go (yes z) (Ok y) e = absurd (given-not-refused y 1 (rw (eq-eqb x 0 z) at e))
+    go (yes z) (Err why) e = sym (ap inverse z ∙ inverse-zero)
+    go (no n) (Ok y) e = given-only y (over 1 x) (rw (ne_eqb x 0 n) at e) ∙ over-one x
+    go (no n) (Err why) e = absurd (given-not-refused (over 1 x) (code_of why) (sym (rw (ne_eqb x 0 n) at e)))

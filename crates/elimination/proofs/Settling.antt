@@ -1,6 +1,6 @@
 -- Symbols that meet as many held equations as there are columns are the single set that fits what the stores hold.
 -- Assumes nothing.
-use mathlib.Core.Path.{◌≡◌, refl, ap, ◌∙◌}
+use mathlib.Core.Path.{◌≡◌, ap, ◌∙◌}
 use mathlib.Core.List.{List}
 use Prim.Native.Nat.{ℕ, ◌+◌, ◌-◌, ◌*◌, ◌≤◌, ◌<◌}
 use native.Mathlib.Omega.{arith}
@@ -12,7 +12,6 @@ use Rattle.linear.specs.Rows.{RowAdded, OnlyBelow}
 use Rattle.linear.specs.Elimination.{Stepped}
 use Rattle.linear.proofs.Back.{brought-past, brought-row, met-fits}
 use Rattle.linear.proofs.Finish.{stepped-solved, front-block, front_fits}
-use Rattle.linear.proofs.Rows.{only-refl}
 use Rattle.elimination.specs.Steps.{column}
 use Rattle.elimination.specs.Settling.{Settles}
 
@@ -28,10 +27,6 @@ pub brought-at : {L T q p x f : ℕ} (a d o : List ℕ) {o₁ o₂ : List ℕ} �
 brought-at {L} {q = q} {x = x} a d o h e u s =
     let i : x ≡ q * L + (x - q * L) = omega arith in
     brought-row a d o (omega arith) (e ∙ ap (λ (z : ℕ). get_or a z 0) i) u s
-
--- nothing is done
-pub settles-none : {L T r : ℕ} (ps a d o : List ℕ) → r < L → Settles L T r ps a d o o
-settles-none ps a d o h = record { past = only-refl; short = λ _. refl; solved = λ l. absurd (omega arith) }
 
 pub settles : {L T r : ℕ} (ps a d o o₁ : List ℕ) → L ≤ r → Bytes o₁ → L * T ≤ length o → OnlyBelow (L * T) o o₁
     → (Stepped L r (column ps) a d → MetFrom L T 0 r a d o₁) → Settles L T r ps a d o o₁

@@ -24,8 +24,7 @@ use Rattle.elimination.specs.Settling.{Settles}
 use Rattle.elimination.specs.Solving.{Under, Gone, HeldVerdict, Reached, progressed}
 use Rattle.elimination.specs.Verdict.{Means, Answered}
 use Rattle.elimination.proofs.Steps.{room-kept}
-use Rattle.elimination.specs.declared.beneath.solving.Progress.{Progress}
-use Rattle.elimination.specs.declared.beneath.solving.Progress.TheVariants as Progresses
+use Rattle.std.specs.Prelude.{Option, Some, None}
 use Rattle.elimination.specs.declared.beneath.taking.Taken.{Taken}
 use Rattle.elimination.specs.declared.beneath.taking.Taken.TheVariants.{Held, Dependent, Clash}
 use Rattle.elimination.specs.declared.verdict.Verdict.{Verdict}
@@ -67,7 +66,8 @@ became-only L T {i} {r} ps a d x y ps₁ a₁ d₁ l Held (h, (c, b, p), q) = (o
 became-only L T ps a d x y ps₁ a₁ d₁ l Dependent (s, q) = rw (s.rows, s.symbols) (only-refl, only-refl)
 became-only L T ps a d x y ps₁ a₁ d₁ l Clash (s, q) = rw (s.rows, s.symbols) (only-refl, only-refl)
 
-module _ {L T i r : ℕ} {ps a₀ d₀ a d x₀ y₀ : List ℕ} (x y : List ℕ) (u : Under L T i r ps a₀ d₀ a d) (cx : RowCopied L 0 i a x₀ x) (cy : RowCopied T 0 i d y₀ y) where
+module _ {L T i r : ℕ} {ps a₀ d₀ a d x₀ y₀ : List ℕ} (x y : List ℕ) (u : Under L T i r ps a₀ d₀ a d)
+    (cx : RowCopied L 0 i a x₀ x) (cy : RowCopied T 0 i d y₀ y) where
   -- row i stands in the buffers as it did at first
   entry : (w : ℕ) (b₀ b z₀ z : List ℕ) → OnlyBelow (i * w) b₀ b → RowCopied w 0 i b z₀ z → (c : ℕ) → c < w → get_or z c 0 ≡ cell w b₀ i c
   entry w b₀ b z₀ z o s c h =
@@ -119,8 +119,22 @@ module _ {L T i r : ℕ} {ps a₀ d₀ a d x₀ y₀ : List ℕ} (x y : List ℕ
 
 -- ---- all are taken
 
-pub gone-more : (L T : ℕ) {i m : ℕ} (a₀ d₀ : List ℕ) → i ≤ m → ContradictionBytes L T (stored_system i L T a₀ d₀) → ContradictionBytes L T (stored_system m L T a₀ d₀)
+-- one more row changed, of m, after the first i
+pub only-on : (w : ℕ) {i m : ℕ} {a a₁ a₂ : List ℕ} → i < m → OnlyBelow (i * w) a a₁ → OnlyBelow ((i + 1) * w) a₁ a₂ → OnlyBelow (m * w) a a₂
+only-on w {i} {m} h old new =
+    let before : i * w ≤ m * w = mul-le-mul_right w (omega arith) in
+    let one : (i + 1) * w ≤ m * w = mul-le-mul_right w (omega arith) in
+    only-trans (only-more before old) (only-more one new)
+
+-- and none fits all of them where none fits those
+pub gone-more : (L T : ℕ) {i m : ℕ} (a₀ d₀ : List ℕ) → i ≤ m → ContradictionBytes L T (stored_system i L T a₀ d₀)
+    → ContradictionBytes L T (stored_system m L T a₀ d₀)
 gone-more L T a₀ d₀ l c = contradiction-remains (λ k h. (k, omega arith, record { coefs = λ c l. refl; bytes = λ t l. refl })) c
+
+-- where the i-th is the last of those
+pub gone_on : (L T : ℕ) {i m : ℕ} (a₀ d₀ : List ℕ) → i < m → ContradictionBytes L T (stored_system (i + 1) L T a₀ d₀)
+    → ContradictionBytes L T (stored_system m L T a₀ d₀)
+gone_on L T {i} a₀ d₀ l c = gone-more L T {i = i + 1} a₀ d₀ (omega arith) c
 
 -- there is room as before, and the held rows stand in it
 pub taken_in : {M L T : ℕ} {a d a₁ d₁ : List ℕ} → StoresRoom M L T a d → OnlyBelow (M * L) a a₁ × OnlyBelow (M * T) d d₁ → StoresRoom M L T a₁ d₁
@@ -129,10 +143,10 @@ taken_in room (ra, rd) = room-kept room ra.size rd.size
 pub pivots-kept : {L : ℕ} {ps ps₁ : List ℕ} → Pivots L ps → length ps₁ ≡ length ps → Pivots L ps₁
 pivots-kept p e = record { enough = omega (arith, p.enough, e); small = p.small }
 
-pub reached : {M L T : ℕ} {ps a d : List ℕ} (a₀ d₀ : List ℕ) (p : Progress) → StoresRoom M L T a d → Pivots L ps → Gone L T M ps a₀ d₀ a d p
+pub reached : {M L T : ℕ} {ps a d : List ℕ} (a₀ d₀ : List ℕ) (p : Option ℕ) → StoresRoom M L T a d → Pivots L ps → Gone L T M ps a₀ d₀ a d p
     → Reached L T ps a d p
-reached {ps = ps} a₀ d₀ (Progresses.Held r) room places u = lent-held ps u.enough room places u.stands
-reached a₀ d₀ Progresses.Clash room places u = tt
+reached {ps = ps} a₀ d₀ (Some r) room places u = lent-held ps u.enough room places u.stands
+reached a₀ d₀ None room places u = tt
 
 -- what is left of the stores when their used parts were made 0, with the verdict v handed on as w
 abbrev Cleared : (M L T : ℕ) (a d a₁ d₁ : List ℕ) (v w : Verdict) → Type 0

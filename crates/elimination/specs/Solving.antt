@@ -1,13 +1,11 @@
 -- The equations that two stores hold, taken one after the other, and what they come to.
 -- Assumes nothing.
-use Rattle.std.specs.Prelude.{◌≡◌, List, ℕ, ◌+◌, ◌-◌, ◌*◌, ◌≤◌, ◌<◌}
+use Rattle.std.specs.Prelude.{◌≡◌, List, ℕ, ◌+◌, ◌-◌, ◌*◌, ◌≤◌, ◌<◌, Option, Some, None}
 use Rattle.linear.specs.Bytes.{stored_system, ContradictionBytes}
 use Rattle.linear.specs.Rows.{OnlyBelow}
 use Rattle.linear.specs.Elimination.{Holds, Stepped}
 use Rattle.elimination.specs.Steps.{column}
 use Rattle.elimination.specs.Taking.{Lent}
-use Rattle.elimination.specs.declared.beneath.solving.Progress.{Progress}
-use Rattle.elimination.specs.declared.beneath.solving.Progress.TheVariants as Progresses
 use Rattle.elimination.specs.declared.beneath.taking.Taken.{Taken}
 use Rattle.elimination.specs.declared.beneath.taking.Taken.TheVariants as Takens
 use Rattle.elimination.specs.declared.verdict.Verdict.{Verdict}
@@ -22,15 +20,15 @@ pub record Under (L T i r : ℕ) (ps a₀ d₀ a d : List ℕ) : Type 0 where
   pub symbols : OnlyBelow (i * T) d₀ d
 
 -- how many are held then
-abbrev pub progressed : ℕ → Taken → Progress
-progressed r Takens.Held = Progresses.Held (r + 1)
-progressed r Takens.Dependent = Progresses.Held r
-progressed r Takens.Clash = Progresses.Clash
+abbrev pub progressed : ℕ → Taken → Option ℕ
+progressed r Takens.Held = Some (r + 1)
+progressed r Takens.Dependent = Some r
+progressed r Takens.Clash = None
 
 -- when i equations were taken
-abbrev pub Gone : (L T i : ℕ) (ps a₀ d₀ a d : List ℕ) → Progress → Type 0
-Gone L T i ps a₀ d₀ a d (Progresses.Held r) = Under L T i r ps a₀ d₀ a d
-Gone L T i ps a₀ d₀ a d Progresses.Clash = ContradictionBytes L T (stored_system i L T a₀ d₀)
+abbrev pub Gone : (L T i : ℕ) (ps a₀ d₀ a d : List ℕ) → Option ℕ → Type 0
+Gone L T i ps a₀ d₀ a d (Some r) = Under L T i r ps a₀ d₀ a d
+Gone L T i ps a₀ d₀ a d None = ContradictionBytes L T (stored_system i L T a₀ d₀)
 
 -- r equations are held, in L symbols: all are settled, or so many are not
 abbrev pub HeldVerdict : (L r : ℕ) → Verdict → Type 0
@@ -39,6 +37,6 @@ HeldVerdict L r Contradiction = ⊥
 HeldVerdict L r (Open s) = (r < L) × (s ≡ L - r)
 
 -- the held rows, if none is denied, stand there with their pivots
-abbrev pub Reached : (L T : ℕ) (ps a d : List ℕ) → Progress → Type 0
-Reached L T ps a d (Progresses.Held r) = Lent L T r ps a d
-Reached L T ps a d Progresses.Clash = Unit {0}
+abbrev pub Reached : (L T : ℕ) (ps a d : List ℕ) → Option ℕ → Type 0
+Reached L T ps a d (Some r) = Lent L T r ps a d
+Reached L T ps a d None = Unit {0}

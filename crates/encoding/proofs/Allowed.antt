@@ -8,10 +8,11 @@ use native.Mathlib.Omega.{arith}
 use borrow.Author.Tests.{ltb-false, leb-false, eqb-true, eqb-false, not-false, le-ltb, le-leb, lt-leb, eq-eqb, ne_eqb}
 use lib.Dec.{eqb, leb, ltb}
 use lib.ListN.{length}
-use Rattle.field.specs.Answer.{Outcome, done, given, unless}
+use Rattle.field.specs.Answer.{Outcome, outcome, given, unless}
+use Rattle.std.specs.Prelude.{Result}
 use Rattle.field.specs.Runs.{Written}
 use Rattle.field.proofs.Refusals.{passed}
-use Rattle.field.specs.declared.refusal.Answer as Plain
+use Rattle.field.specs.declared.refusal.Refusal.{Refusal}
 use Rattle.headers.specs.Row.{Obeys, between, l_of, p_of, p1_of}
 use Rattle.headers.specs.Tuples.{tuple_of}
 use Rattle.headers.specs.declared.row.Row.{Row}
@@ -63,11 +64,21 @@ allowed-well r tables k t esi have room e =
 -- and the other way round
 allowed-is : {r : Row} {tables k t esi have room : ℕ} → Allowed r tables k t esi have room → allowed r tables k t esi have room ≡ given tt
 allowed-is {r} {tables} {k} {t} {esi} {have} {room} h =
-    rw (obeyed h.rules, eq-eqb tables 1024 h.all, le-leb 1 k h.k-low, le-leb k r.kp h.k-high, lt-leb 16777216 esi h.esi-24, ne_eqb t 0 h.some, le-ltb have (l_of r * t) h.enough, le-ltb room t h.fits)
+    rw (
+      obeyed h.rules,
+      eq-eqb tables 1024 h.all,
+      le-leb 1 k h.k-low,
+      le-leb k r.kp h.k-high,
+      lt-leb 16777216 esi h.esi-24,
+      ne_eqb t 0 h.some,
+      le-ltb have (l_of r * t) h.enough,
+      le-ltb room t h.fits,
+    )
 
 -- so a call that may encode is not refused
-pub encodes-done : {v : List ℕ} {r : Row} {k t esi : ℕ} {C xs ys : List ℕ} {a : Plain.Answer} → Allowed r (length v) k t esi (length C) (length xs)
-    → Encodes v r k t esi C xs ys a → done a ≡ given tt
+pub encodes-done : {v : List ℕ} {r : Row} {k t esi : ℕ} {C xs ys : List ℕ} {a : Result (Unit {0}) Refusal}
+    → Allowed r (length v) k t esi (length C) (length xs)
+    → Encodes v r k t esi C xs ys a → outcome a ≡ given tt
 encodes-done h u = u.answer ∙ allowed-is h
 
 -- the tuple that was generated, from what its makers promise
@@ -75,12 +86,10 @@ pub tuple_is : (v : List ℕ) (r : Row) {z : Tuple} {p1 x y : ℕ} → z ≡ tup
 tuple_is v r {x = x} e f g = e ∙ ap (λ (q : ℕ). tuple_of v r.j r.w q x) f ∙ ap (tuple_in v r) g
 
 -- the sum over the walk is that over the row
-pub encoded-walk : {r : Row} → Obeys r → (v : List ℕ) (x t : ℕ) (C : List ℕ) {z : Tuple} {p p1 : ℕ} {xs ys : List ℕ} → z ≡ tuple_in v r x → p ≡ p_of r → p1 ≡ p1_of r
+pub encoded-walk : {r : Row} → Obeys r → (v : List ℕ) (x t : ℕ) (C : List ℕ) {z : Tuple} {p p1 : ℕ} {xs ys : List ℕ}
+    → z ≡ tuple_in v r x → p ≡ p_of r → p1 ≡ p1_of r
     → Written (walked t C (r.w + p) (places r.w p p1 z)) xs ys 0 t → Written (encoded v r x t C) xs ys 0 t
 unfolding enc
-encoded-walk {r} o v x t C {z} {p} {p1} {xs} {ys} e f g w =
+encoded-walk {r} o v x t C {z} {p} {p1} e f g w =
     let l : r.w + p ≡ l_of r = omega (arith, f, l-is o) in
-    let w1 = subst (λ (n : ℕ). Written (walked t C n (places r.w p p1 z)) xs ys 0 t) l w in
-    let w2 = subst (λ (n : ℕ). Written (walked t C (l_of r) (places r.w n p1 z)) xs ys 0 t) f w1 in
-    let w3 = subst (λ (n : ℕ). Written (walked t C (l_of r) (places r.w (p_of r) n z)) xs ys 0 t) g w2 in
-    subst (λ (n : Tuple). Written (walked t C (l_of r) (places r.w (p_of r) (p1_of r) n)) xs ys 0 t) e w3
+    rw (l, f, g, e) at w

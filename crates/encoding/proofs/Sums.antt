@@ -42,28 +42,21 @@ visited l g ps h b =
     ∙ sum-swap (length ps) l (λ k c. times (unit c (get_or ps k 0)) (g c))
     ∙ sum_same l (λ c q. sym (sum-times-left (length ps) (g c) (λ k. unit c (get_or ps k 0))))
 
--- ---- adding a symbol
-
-pub symbol-added : (t p : ℕ) (d C ys : List ℕ) → p * t + t ≤ length C
-    → Written (added d 0 (take (p * t + t - p * t) (drop (p * t) C))) d ys 0 (length (take (p * t + t - p * t) (drop (p * t) C)))
-    → Written (symbol_added t d C p) d ys 0 t
-symbol-added t p d C ys h u =
-    let v : Written (added d 0 (take t (drop (p * t) C))) d ys 0 (length (take t (drop (p * t) C))) = rw (part-is C (p * t) t) at u in
-    written_as (written_is v (part_length C (p * t) t h))
-    (λ k q. ap₂ plus (ap (λ (i : ℕ). get_or d i 0) (zero-add k)) (part_at C (p * t) t k q))
-
 -- ---- adding one after another
 
 pub none-added : (t : ℕ) (d C ps : List ℕ) → Written (symbols_added t d C ps 0) d d 0 t
 none-added t d C ps =
     record {
       size = refl;
-      part = λ k h. ap (λ (i : ℕ). get_or d i 0) (zero-add k) ∙ sym (xor_zero_r (get_or d k 0)) ∙ ap (plus (get_or d k 0)) (sym (sum-zero 0 (λ j b. absurd (omega arith))));
+      part = λ k h.
+          ap (λ (i : ℕ). get_or d i 0) (zero-add k) ∙ sym (xor_zero_r (get_or d k 0))
+          ∙ ap (plus (get_or d k 0)) (sym (sum-zero 0 (λ j b. absurd (omega arith))));
       low = λ k h. refl;
       high = λ k h. refl;
     }
 
-pub one-added : (t : ℕ) (d C ps ys zs : List ℕ) (i : ℕ) → Written (symbols_added t d C ps i) d ys 0 t → Written (symbol_added t ys C (get_or ps i 0)) ys zs 0 t
+pub one-added : (t : ℕ) (d C ps ys zs : List ℕ) (i : ℕ)
+    → Written (symbols_added t d C ps i) d ys 0 t → Written (symbol_added t ys C (get_or ps i 0)) ys zs 0 t
     → Written (symbols_added t d C ps (i + 1)) d zs 0 t
 one-added t d C ps ys zs i w u =
     record {
@@ -71,19 +64,16 @@ one-added t d C ps ys zs i w u =
       part = λ k h.
           u.part k h ∙ ap (λ (x : ℕ). plus x (cell t C (get_or ps i 0) k)) (ap (λ (j : ℕ). get_or ys j 0) (sym (zero-add k)) ∙ w.part k h)
           ∙ assoc (get_or d k 0) (sum i (λ j. cell t C (get_or ps j 0) k)) (cell t C (get_or ps i 0) k)
-          ∙ ap (plus (get_or d k 0)) (sym (sum-last i (λ j. cell t C (get_or ps j 0) k)) ∙ ap (λ (j : ℕ). sum j (λ m. cell t C (get_or ps m 0) k)) (sym (add-one i)));
+          ∙ ap (plus (get_or d k 0)) (sym (sum-last i (λ j. cell t C (get_or ps j 0) k)))
+          ∙ ap (λ (j : ℕ). symbols_added t d C ps j k) (sym (add-one i));
       low = λ k h. u.low k h ∙ w.low k h;
       high = λ k h. u.high k h ∙ w.high k h;
     }
 
-pub enough-added : (t : ℕ) (d C ps : List ℕ) {ys : List ℕ} {i n : ℕ} → Written (symbols_added t d C ps i) d ys 0 t → i ≡ n
-    → Written (symbols_added t d C ps n) d ys 0 t
-enough-added t d C ps {ys} w e = subst (λ (j : ℕ). Written (symbols_added t d C ps j) d ys 0 t) e w
-
 -- ---- the whole walk
 
-module _ (w p p1 : ℕ) (z : Tuple) (s : Walks w p p1) (b : Bounds w p1 z) (t : ℕ) (C : List ℕ) {old list xs ys : List ℕ} (laid : Laid (places w p p1 z) old list 0)
-    (clear : Written (λ k. 0) xs ys 0 t) where
+module _ (w p p1 : ℕ) (z : Tuple) (s : Walks w p p1) (b : Bounds w p1 z) (t : ℕ) (C : List ℕ) {old list xs ys : List ℕ}
+    (laid : Laid (places w p p1 z) old list 0) (clear : Written (λ k. 0) xs ys 0 t) where
   held : (k : ℕ) → k < z.d + z.d1 → get_or list k 0 ≡ get_or (places w p p1 z) k 0
   held = walk-held w p p1 z laid
 
@@ -92,7 +82,8 @@ module _ (w p p1 : ℕ) (z : Tuple) (s : Walks w p p1) (b : Bounds w p1 z) (t : 
       record {
         read = omega arith;
         inside = λ k h.
-            let l : get_or list k 0 < w + p = subst (λ (q : ℕ). q < w + p) (sym (held k (omega arith))) (places-lt w p p1 z s b k (omega (arith, places-length w p p1 z))) in
+            let i = places-lt w p p1 z s b k (omega (arith, places-length w p p1 z)) in
+            let l : get_or list k 0 < w + p = rw (held k (omega arith)) i in
             omega (arith, block-ends t l);
         room = omega (arith, clear.size);
       }
@@ -104,8 +95,9 @@ module _ (w p p1 : ℕ) (z : Tuple) (s : Walks w p p1) (b : Bounds w p1 z) (t : 
       record {
         size = u.size ∙ clear.size;
         part = λ k h.
-            u.part k h ∙ ap (λ (x : ℕ). plus x (sum (z.d + z.d1) (λ j. cell t C (get_or list j 0) k))) (ap (λ (j : ℕ). get_or ys j 0) (sym (zero-add k)) ∙ clear.part k h)
-            ∙ xor_zero_l (sum (z.d + z.d1) (λ j. cell t C (get_or list j 0) k))
+            let met = sum (z.d + z.d1) (λ j. cell t C (get_or list j 0) k) in
+            u.part k h ∙ ap (λ (x : ℕ). plus x met) (ap (λ (j : ℕ). get_or ys j 0) (sym (zero-add k)) ∙ clear.part k h)
+            ∙ xor_zero_l met
             ∙ sum_same (z.d + z.d1) (λ j l. ap (λ (q : ℕ). cell t C q k) (held j l))
             ∙ ap (λ (n : ℕ). sum n (λ j. cell t C (get_or ps j 0) k)) (sym (places-length w p p1 z))
             ∙ visited (w + p) (λ c. cell t C c k) ps (places-lt w p p1 z s b) (λ c. bytes (c * t + k));

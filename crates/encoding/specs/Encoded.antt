@@ -1,13 +1,13 @@
 -- The encoding of one symbol: RFC 6330 section 5.3.5.3; document 01, 'Solver and symbols'.
 -- Assumes nothing.
-use Rattle.std.specs.Prelude.{◌≡◌, not, List, ℕ, ◌+◌, ◌*◌, ◌<◌, ◌≤◌, eqb, leb, ltb, length, get_or}
-use Rattle.field.specs.Answer.{Outcome, Left, before, done, given, unless}
+use Rattle.std.specs.Prelude.{◌≡◌, Result, not, List, ℕ, ◌+◌, ◌*◌, ◌<◌, ◌≤◌, eqb, leb, ltb, length, get_or}
+use Rattle.field.specs.Answer.{Outcome, Left, before, outcome, given, unless}
 use Rattle.field.specs.Octet.{plus, times}
 use Rattle.field.specs.Runs.{Written}
 use Rattle.field.specs.Sum.{sum}
 use Rattle.headers.specs.Row.{verified, between, l_of}
 use Rattle.headers.specs.Shift.{shifted}
-use Rattle.field.specs.declared.refusal.Answer as Plain
+use Rattle.field.specs.declared.refusal.Refusal.{Refusal}
 use Rattle.headers.specs.declared.row.Row.{Row}
 use Rattle.constraints.specs.Encoding.{enc_of, visits}
 use Rattle.linear.specs.Bytes.{cell}
@@ -30,9 +30,9 @@ allowed r tables k t esi have room =
     (unless (eqb t 0) 10 (unless (ltb have (l_of r * t)) 8 (unless (ltb room t) 8 (given tt)))))))
 
 -- the symbol at the front of the store, or the store as it was
-pub record Encodes (v : List ℕ) (r : Row) (k t esi : ℕ) (C xs ys : List ℕ) (a : Plain.Answer) : Type 0 where
-  pub answer : done a ≡ allowed r (length v) k t esi (length C) (length xs)
-  pub memory : Left (done a) xs ys (Written (encoded v r (shifted esi k r.kp) t C) xs ys 0 t)
+pub record Encodes (v : List ℕ) (r : Row) (k t esi : ℕ) (C xs ys : List ℕ) (a : Result (Unit {0}) Refusal) : Type 0 where
+  pub answer : outcome a ≡ allowed r (length v) k t esi (length C) (length xs)
+  pub memory : Left (outcome a) xs ys (Written (encoded v r (shifted esi k r.kp) t C) xs ys 0 t)
 
 -- ---- what the functions beneath leave
 

@@ -1,10 +1,9 @@
 // The symbol of an ESI from the intermediate symbols of its block, written from RFC 6330 section 5.3.5.3 (`enc_into` in the crate's encoder.rs).
 ghost use Rattle.std.specs.Prelude.{◌≡◌};
-ghost use Rattle.field.specs.Answer.{done};
+ghost use Rattle.field.specs.Answer.{outcome};
 ghost use Rattle.encoding.specs.Encoded.{Encodes, allowed};
 
 use crate::beneath::enc;
-use field::refusal;
 use field::refusal::Refusal;
 use headers::beneath::{row, tuple};
 use headers::ids::{Esi, beneath};
@@ -19,35 +18,29 @@ fn check(
     esi: u32,
     have: usize,
     room: usize,
-) -> refusal::Answer
-    ensures { done result ≡ allowed r tables k t esi have room }
+) -> Result<(), Refusal>
+    ensures { outcome result ≡ allowed r tables k t esi have room }
 {
-    let fine = row::verify(r);
-    let refusal::Answer::Done = fine else {
-        return fine;
-    };
+    row::verify(r)?;
     if tables != 1024 {
-        return refusal::Answer::Refused(Refusal::BadTables);
+        return Err(Refusal::BadTables);
     }
-    if k < 1 {
-        return refusal::Answer::Refused(Refusal::BadCount);
-    }
-    if k > r.kp {
-        return refusal::Answer::Refused(Refusal::BadCount);
+    if k < 1 || k > r.kp {
+        return Err(Refusal::BadCount);
     }
     if esi >= 16777216 {
-        return refusal::Answer::Refused(Refusal::BadCount);
+        return Err(Refusal::BadCount);
     }
     if t == 0 {
-        return refusal::Answer::Refused(Refusal::BadSize);
+        return Err(Refusal::BadSize);
     }
     if have < r.l as usize * t as usize {
-        return refusal::Answer::Refused(Refusal::WrongLength);
+        return Err(Refusal::WrongLength);
     }
     if room < t as usize {
-        return refusal::Answer::Refused(Refusal::WrongLength);
+        return Err(Refusal::WrongLength);
     }
-    refusal::Answer::Done
+    Ok(())
 }
 
 // The first T octets of out become the symbol, whatever was in them.
@@ -59,15 +52,12 @@ pub fn encode(
     esi: u32,
     intermediates: &[u8],
     out: &mut [u8],
-) -> refusal::Answer
+) -> Result<(), Refusal>
     ensures { Encodes tables.now r k t esi intermediates.now out.old out.new result }
 {
-    let may = check(r, tables.len(), k, t, esi, intermediates.len(), out.len());
-    let refusal::Answer::Done = may else {
-        return may;
-    };
+    check(r, tables.len(), k, t, esi, intermediates.len(), out.len())?;
     let x = beneath::isi_of(r.kp, k, Esi(esi));
     let z = tuple::intermediate_tuple(tables, x, r.w, r.j, r.p1);
     enc::enc(out, t as usize, intermediates, z, r.w, r.p, r.p1);
-    refusal::Answer::Done
+    Ok(())
 }

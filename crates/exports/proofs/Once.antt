@@ -4,18 +4,19 @@
 -- Assumes nothing.
 use mathlib.Core.Path.{◌≡◌, sym, ap, ◌∙◌, subst}
 use mathlib.Core.List.{List}
+use mathlib.Core.Bool.{Bool}
 use Prim.Native.Nat.{ℕ, ◌+◌}
 use lib.ListN.{length}
-use Rattle.field.specs.Answer.{Outcome, Left, Does, done, given}
+use Rattle.std.specs.Prelude.{Result}
+use Rattle.field.specs.Answer.{Outcome, Left, Does, given, outcome}
 use Rattle.field.specs.Runs.{added, fused, scaled}
+use Rattle.field.specs.declared.refusal.Refusal.{Refusal}
 use Rattle.field.proofs.Refusals.{Settled, settled-told}
 use Rattle.headers.specs.Headers.{IdStored, InfoStored, PacketStored}
-use Rattle.headers.specs.Number.{number_outcome}
 use Rattle.headers.proofs.Answers.{stores-only}
-use Rattle.slabs.specs.Slab.{SymbolScaled, SymbolsAdded, SymbolsFused, Zeroed, changed_outcome, slab_outcome}
-use Rattle.slabs.specs.declared.symbol_slab.Changed.{Changed}
+use Rattle.slabs.specs.Slab.{SymbolScaled, SymbolsAdded, SymbolsFused, Zeroed}
 use Rattle.slabs.proofs.Once as slabs
-use Rattle.stores.specs.Matrix.{Cleared, ColumnsSwapped, EntrySet, Resized, RowsAdded, RowsSwapped, matrix_outcome, shape}
+use Rattle.stores.specs.Matrix.{Cleared, ColumnsSwapped, EntrySet, Resized, RowsAdded, RowsSwapped, shape}
 use Rattle.stores.proofs.Once as matrices
 use Rattle.constraints.specs.Answers.{HdpcRows, Walked}
 use Rattle.constraints.proofs.Settled.{rows-only, walked-only}
@@ -29,16 +30,16 @@ use Rattle.exports.specs.Numbers.{id, info, row, slab, tuple}
 use Rattle.exports.specs.Stores.{RunAdded, RunFused, RunScaled, TellsZero, countable, same_length}
 use Rattle.exports.proofs.Calls.{zero-told-once}
 
-module _ {R A : Type 0} (of : R → Outcome A) {C : R → List ℕ → Type 0} where
+module _ {A : Type 0} {C : Result A Refusal → List ℕ → Type 0} where
   -- what the layer below settles
-  pub reports-once : Settled C → Settled (Reports of C)
+  pub reports-once : Settled C → Settled (Reports C)
   reports-once once q r ys zs u w =
       let e = once u.below w.below ys zs u.meets w.meets in
-      (u.result ∙ ap (λ (a : R). code (of a)) e.0 ∙ sym w.result, e.1)
+      (u.result ∙ ap (λ (a : Result A Refusal). code (outcome a)) e.0 ∙ sym w.result, e.1)
 
   -- and that the number is the outcome's: 0, and memory as P says, or the refusal's, and memory as it was
-  pub reports-outcome : (o : Outcome A) (xs : List ℕ) (P : List ℕ → Type 0) {ys : List ℕ} {r : ℕ} → ((a : R) → C a ys → Does of o xs P a ys) → Reports of C r ys
-      → (r ≡ code o) × Left o xs ys (P ys)
+  pub reports-outcome : (o : Outcome A) (xs : List ℕ) (P : List ℕ → Type 0) {ys : List ℕ} {r : ℕ}
+      → ((a : Result A Refusal) → C a ys → Does o xs P a ys) → Reports C r ys → (r ≡ code o) × Left o xs ys (P ys)
   reports-outcome o xs P {ys} means u =
       let d = means u.below u.meets in
       (u.result ∙ ap code d.0, subst (λ (p : Outcome A). Left p xs ys (P ys)) d.0 d.1)
@@ -46,24 +47,24 @@ module _ {R A : Type 0} (of : R → Outcome A) {C : R → List ℕ → Type 0} w
 -- ---- runs
 
 -- three things are settled of a call that writes a symbol and tells whether it is all 0: its number, the store and the slice for the flag
-abbrev pub ToldOnce : Outcome (Unit {0}) → (Changed → List ℕ → Type 0) → List ℕ → Type 0
+abbrev pub ToldOnce : Outcome (Unit {0}) → (Result Bool Refusal → List ℕ → Type 0) → List ℕ → Type 0
 ToldOnce limits C xs =
     (out m n ys zs : List ℕ) (q r : ℕ) → TellsZero limits C xs ys out m q → TellsZero limits C xs zs out n r → (q ≡ r) × (ys ≡ zs) × (m ≡ n)
 
 pub run-add-once : (xs s : List ℕ) → ToldOnce (given tt) (RunAdded xs s) xs
-run-add-once xs s out m n ys zs q r = zero-told-once (settled-told changed_outcome xs (added xs 0 s) 0 (length s) slabs.changed-only (same_length xs s))
+run-add-once xs s out m n ys zs q r = zero-told-once (settled-told xs (added xs 0 s) 0 (length s) (same_length xs s))
 
 pub run-scale-once : (xs : List ℕ) (c : ℕ) → ToldOnce (given tt) (RunScaled xs c) xs
-run-scale-once xs c out m n ys zs q r = zero-told-once (settled-told changed_outcome xs (scaled c xs) 0 (length xs) slabs.changed-only (given tt))
+run-scale-once xs c out m n ys zs q r = zero-told-once (settled-told xs (scaled c xs) 0 (length xs) (given tt))
 
 pub run-fma-once : (xs s : List ℕ) (c : ℕ) → ToldOnce (given tt) (RunFused xs s c) xs
-run-fma-once xs s c out m n ys zs q r = zero-told-once (settled-told changed_outcome xs (fused xs 0 c s) 0 (length s) slabs.changed-only (same_length xs s))
+run-fma-once xs s c out m n ys zs q r = zero-told-once (settled-told xs (fused xs 0 c s) 0 (length s) (same_length xs s))
 
 -- ---- symbols
 
 module _ (xs : List ℕ) (count t : ℕ) where
-  pub slab-with-zeros-once : Settled (Reports slab_outcome (Zeroed xs count t))
-  slab-with-zeros-once = reports-once slab_outcome (slabs.with-zeros-once xs count t)
+  pub slab-with-zeros-once : Settled (Reports (Zeroed xs count t))
+  slab-with-zeros-once = reports-once (slabs.with-zeros-once xs count t)
 
   pub slab-add-assign-once : (order : List ℕ) (dest src : ℕ) → ToldOnce (countable count) (SymbolsAdded xs (slab count t) order dest src) xs
   slab-add-assign-once order dest src out m n ys zs q r = zero-told-once (slabs.add-assign-once xs (slab count t) order dest src)
@@ -77,34 +78,34 @@ module _ (xs : List ℕ) (count t : ℕ) where
 -- ---- matrices
 
 module _ (xs : List ℕ) (height width : ℕ) where
-  pub matrix-new-once : Settled (Reports matrix_outcome (Cleared xs height width))
-  matrix-new-once = reports-once matrix_outcome (matrices.new-once xs height width)
+  pub matrix-new-once : Settled (Reports (Cleared xs height width))
+  matrix-new-once = reports-once (matrices.new-once xs height width)
 
-  pub matrix-set-once : (i j v : ℕ) → Settled (Reports done (EntrySet xs (shape height width) i j v))
-  matrix-set-once i j v = reports-once done (matrices.set-once xs (shape height width) i j v)
+  pub matrix-set-once : (i j v : ℕ) → Settled (Reports (EntrySet xs (shape height width) i j v))
+  matrix-set-once i j v = reports-once (matrices.set-once xs (shape height width) i j v)
 
-  pub matrix-swap-rows-once : (i j : ℕ) → Settled (Reports done (RowsSwapped xs (shape height width) i j))
-  matrix-swap-rows-once i j = reports-once done (matrices.swap-rows-once xs (shape height width) i j)
+  pub matrix-swap-rows-once : (i j : ℕ) → Settled (Reports (RowsSwapped xs (shape height width) i j))
+  matrix-swap-rows-once i j = reports-once (matrices.swap-rows-once xs (shape height width) i j)
 
-  pub matrix-swap-columns-once : (i j start : ℕ) → Settled (Reports done (ColumnsSwapped xs (shape height width) i j start))
-  matrix-swap-columns-once i j start = reports-once done (matrices.swap-columns-once xs (shape height width) i j start)
+  pub matrix-swap-columns-once : (i j start : ℕ) → Settled (Reports (ColumnsSwapped xs (shape height width) i j start))
+  matrix-swap-columns-once i j start = reports-once (matrices.swap-columns-once xs (shape height width) i j start)
 
-  pub matrix-add-assign-rows-once : (dest src : ℕ) → Settled (Reports done (RowsAdded xs (shape height width) dest src))
-  matrix-add-assign-rows-once dest src = reports-once done (matrices.add-assign-rows-once xs (shape height width) dest src)
+  pub matrix-add-assign-rows-once : (dest src : ℕ) → Settled (Reports (RowsAdded xs (shape height width) dest src))
+  matrix-add-assign-rows-once dest src = reports-once (matrices.add-assign-rows-once xs (shape height width) dest src)
 
-  pub matrix-resize-once : (h w : ℕ) → Settled (Reports matrix_outcome (Resized xs (shape height width) h w))
-  matrix-resize-once h w = reports-once matrix_outcome (matrices.resize-once xs (shape height width) h w)
+  pub matrix-resize-once : (h w : ℕ) → Settled (Reports (Resized xs (shape height width) h w))
+  matrix-resize-once h w = reports-once (matrices.resize-once xs (shape height width) h w)
 
 -- ---- headers
 
-pub payload-id-write-once : (sbn esi : ℕ) (xs : List ℕ) → Settled (Reports done (λ a ys. IdStored (id sbn esi) xs ys a))
-payload-id-write-once sbn esi xs = reports-once done (λ a b ys zs u w. stores-only u w)
+pub payload-id-write-once : (sbn esi : ℕ) (xs : List ℕ) → Settled (Reports (λ a ys. IdStored (id sbn esi) xs ys a))
+payload-id-write-once sbn esi xs = reports-once (λ a b ys zs u w. stores-only u w)
 
-pub transmission-write-once : (f t z n al : ℕ) (xs : List ℕ) → Settled (Reports done (λ a ys. InfoStored (info f t z n al) xs ys a))
-transmission-write-once f t z n al xs = reports-once done (λ a b ys zs u w. stores-only u w)
+pub transmission-write-once : (f t z n al : ℕ) (xs : List ℕ) → Settled (Reports (λ a ys. InfoStored (info f t z n al) xs ys a))
+transmission-write-once f t z n al xs = reports-once (λ a b ys zs u w. stores-only u w)
 
-pub packet-write-once : (sbn esi : ℕ) (bs xs : List ℕ) → Settled (Reports done (λ a ys. PacketStored (id sbn esi) bs xs ys a))
-packet-write-once sbn esi bs xs = reports-once done (λ a b ys zs u w. stores-only u w)
+pub packet-write-once : (sbn esi : ℕ) (bs xs : List ℕ) → Settled (Reports (λ a ys. PacketStored (id sbn esi) bs xs ys a))
+packet-write-once sbn esi bs xs = reports-once (λ a b ys zs u w. stores-only u w)
 
 -- ---- rows of the system, and the encoding of a symbol
 
@@ -113,17 +114,17 @@ module _ (k j s h w l p b p1 : ℕ) where
   abbrev r : Row
   r = row k j s h w l p b p1
 
-  pub enc-indices-once : (d a b d1 a1 b1 : ℕ) (xs : List ℕ) → Settled (Reports number_outcome (λ n ys. Walked r (tuple d a b d1 a1 b1) xs ys n))
-  enc-indices-once d a b d1 a1 b1 xs = reports-once number_outcome (λ p q ys zs u v. walked-only u v)
+  pub enc-indices-once : (d a b d1 a1 b1 : ℕ) (xs : List ℕ) → Settled (Reports (λ n ys. Walked r (tuple d a b d1 a1 b1) xs ys n))
+  enc-indices-once d a b d1 a1 b1 xs = reports-once (λ p q ys zs u v. walked-only u v)
 
-  pub hdpc-rows-once : (v xs : List ℕ) → Settled (Reports done (λ a ys. HdpcRows v r xs ys a))
-  hdpc-rows-once v xs = reports-once done (λ a b ys zs u v. rows-only u v)
+  pub hdpc-rows-once : (v xs : List ℕ) → Settled (Reports (λ a ys. HdpcRows v r xs ys a))
+  hdpc-rows-once v xs = reports-once (λ a b ys zs u v. rows-only u v)
 
-  pub constraint-matrix-once : (v isis xs : List ℕ) → Settled (Reports matrix_outcome (λ m ys. Builds v isis r h k xs ys m))
-  constraint-matrix-once v isis xs = reports-once matrix_outcome (λ a b ys zs u v. builds-only u v)
+  pub constraint-matrix-once : (v isis xs : List ℕ) → Settled (Reports (λ m ys. Builds v isis r h k xs ys m))
+  constraint-matrix-once v isis xs = reports-once (λ a b ys zs u v. builds-only u v)
 
-  pub constraint-matrix-no-hdpc-once : (v isis xs : List ℕ) → Settled (Reports matrix_outcome (λ m ys. Builds v isis r 0 (k + h) xs ys m))
-  constraint-matrix-no-hdpc-once v isis xs = reports-once matrix_outcome (λ a b ys zs u v. builds-only u v)
+  pub constraint-matrix-no-hdpc-once : (v isis xs : List ℕ) → Settled (Reports (λ m ys. Builds v isis r 0 (k + h) xs ys m))
+  constraint-matrix-no-hdpc-once v isis xs = reports-once (λ a b ys zs u v. builds-only u v)
 
-  pub encode-once : (v : List ℕ) (count t esi : ℕ) (C xs : List ℕ) → Settled (Reports done (λ a ys. Encodes v r count t esi C xs ys a))
-  encode-once v count t esi C xs = reports-once done (λ a b ys zs u v. encodes-only u v)
+  pub encode-once : (v : List ℕ) (count t esi : ℕ) (C xs : List ℕ) → Settled (Reports (λ a ys. Encodes v r count t esi C xs ys a))
+  encode-once v count t esi C xs = reports-once (λ a b ys zs u v. encodes-only u v)

@@ -9,7 +9,8 @@ use native.Mathlib.Omega.{arith}
 use borrow.Author.Tests.{lt-ltb, le-ltb, lt-leb, ltb-false, eqb-false}
 use lib.Dec.{eqb, leb, ltb}
 use lib.ListN.{length}
-use Rattle.field.specs.Answer.{Outcome, given, refused, unless, before, code_of}
+use Rattle.std.specs.Prelude.{Result, Ok, Err}
+use Rattle.field.specs.Answer.{Outcome, given, refused, unless, before, outcome}
 use Rattle.field.specs.Choice.{pick}
 use Rattle.field.specs.declared.refusal.Refusal.{Refusal}
 use Rattle.field.proofs.Answers.{given-not-refused}
@@ -19,13 +20,13 @@ use Rattle.headers.specs.declared.row.Row.{Row}
 use Rattle.headers.proofs.Rules.{obeying}
 use Rattle.elimination.specs.declared.verdict.Verdict.{Verdict}
 use Rattle.elimination.proofs.Once.{means-once}
-use Rattle.solver.specs.Display.{Place, arrived, rebuilt, any_large, located, whereof}
+use Rattle.solver.specs.Display.{any_large, located, whereof}
 use Rattle.solver.specs.System.{Solves, admitted, solvable, system_of, equations}
-use Rattle.solver.specs.declared.solver.Solution.{Solution}
-use Rattle.solver.specs.declared.solver.Solution.TheVariants.{Given, Refused}
+use Rattle.solver.specs.declared.display.Place.{Place}
+use Rattle.solver.specs.declared.display.Place.TheVariants.{Arrived, Rebuilt}
 use Rattle.exports.specs.Call.{Called, Kept, code, and_room, listed, then_roomed, roomed}
+use Rattle.exports.specs.Intakes.{solution_code, lacking_in}
 use Rattle.exports.specs.Solving.{verdict_code, lacking, taken, SolvingBy, Solving, place_numbers, displayed}
-use Rattle.exports.proofs.Calls.{called-as}
 
 -- the same values were written
 kept_same : {f g h us vs : List ℕ} → us ≡ vs → Kept (given us) f g → Kept (given vs) f h → g ≡ h
@@ -33,7 +34,8 @@ kept_same {f} {g} {h} {us} {vs} e u w = written_once (subst (λ (l : List ℕ). 
 
 -- the answer, and all four stores, of a call that was taken and of one that was refused
 solving-by-once : (p : Outcome (Unit {0})) (r : Row) (v : List ℕ) (k t : ℕ) (es xs a d o f a₁ d₁ o₁ f₁ a₂ d₂ o₂ f₂ : List ℕ) (m n : ℕ)
-    → SolvingBy p r v k t es xs a d o f a₁ d₁ o₁ f₁ m → SolvingBy p r v k t es xs a d o f a₂ d₂ o₂ f₂ n → (m ≡ n) × (a₁ ≡ a₂) × (d₁ ≡ d₂) × (o₁ ≡ o₂) × (f₁ ≡ f₂)
+    → SolvingBy p r v k t es xs a d o f a₁ d₁ o₁ f₁ m → SolvingBy p r v k t es xs a d o f a₂ d₂ o₂ f₂ n
+    → (m ≡ n) × (a₁ ≡ a₂) × (d₁ ≡ d₂) × (o₁ ≡ o₂) × (f₁ ≡ f₂)
 solving-by-once (given u) r v k t es xs a d o f a₁ d₁ o₁ f₁ a₂ d₂ o₂ f₂ m n h g =
     let e = means-once (l_of r) t (system_of r v k t es xs) o o₁ o₂ h.0 g.0 h.1.1 g.1.1 in (
       h.2 ∙ ap verdict_code e.0 ∙ sym g.2,
@@ -68,7 +70,8 @@ eight true o h = refl
 eight false o h = h
 
 -- a call without room for rows is refused as one is that has room for them, and none for what follows
-pub no_rows : (r : Row) (tables k t n : ℕ) (large : Bool) (came a d o : ℕ) → and_room (solvable r tables k t n large came a d o) 0 1 ≡ solvable r tables k t n large came 0 d o
+pub no_rows : (r : Row) (tables k t n : ℕ) (large : Bool) (came a d o : ℕ)
+    → and_room (solvable r tables k t n large came a d o) 0 1 ≡ solvable r tables k t n large came 0 d o
 no_rows r tables k t n large came a d o =
     past_row r _ _ (λ e. past (not (eqb tables 1024)) 5 _ _ (λ _.
     past large 9 _ _ (λ _. past (ltb k 1) 9 _ _ (λ _. past (ltb r.kp k) 9 _ _ (λ _. past (ltb 65535 n) 9 _ _ (λ _.
@@ -86,13 +89,14 @@ module _ (out : List ℕ) (p : Place) where
   place-roomed e = go p
     where
       go : (p : Place) → given (place_numbers p) ≡ then_roomed out (given (place_numbers p))
-      go (arrived s) = sym (rw e refl)
-      go (rebuilt s) = sym (rw e refl)
+      go (Arrived s) = sym (rw e refl)
+      go (Rebuilt s) = sym (rw e refl)
 
   -- a test that stands before all three
   passes : (b : Bool) (n : ℕ) (x y z : Outcome (Unit {0}))
       → (b ≡ false → before x (roomed out 2 (listed place_numbers (before y (given p)))) ≡ then_roomed out (listed place_numbers (before z (given p))))
-      → before (unless b n x) (roomed out 2 (listed place_numbers (before (unless b n y) (given p)))) ≡ then_roomed out (listed place_numbers (before (unless b n z) (given p)))
+      → before (unless b n x) (roomed out 2 (listed place_numbers (before (unless b n y) (given p))))
+      ≡ then_roomed out (listed place_numbers (before (unless b n z) (given p)))
   passes true n x y z h = refl
   passes false n x y z h = h refl
 
@@ -114,7 +118,8 @@ pub display-room : (k t : ℕ) (es : List ℕ) (came built i : ℕ) (out : List 
     → displayed k t es came built i out ≡ then_roomed out (listed place_numbers (located k t es came (pick (ltb (length out) 2) 0 built) i))
 display-room k t es came built i out =
     let p = whereof t es i in
-    passes out p (ltb k 1) 9 _ _ _ (λ f. passes out p (ltb 56403 k) 9 _ _ _ (λ _. passes out p (ltb 65535 (length es)) 9 _ _ _ (λ _. passes out p (any_large es) 9 _ _ _ (λ _.
+    passes out p (ltb k 1) 9 _ _ _ (λ f. passes out p (ltb 56403 k) 9 _ _ _ (λ _. passes out p (ltb 65535 (length es)) 9 _ _ _ (λ _.
+    passes out p (any_large es) 9 _ _ _ (λ _.
     passes out p (eqb t 0) 10 _ _ _ (λ g. passes out p (not (eqb came (length es * t))) 10 _ _ _ (λ _.
     rw (lt-leb k 0 (ltb-false k 1 f), measured-is (ltb (length out) 2) f g) (ends out p (ltb (length out) 2) (ltb built (k * t)) (leb k i) refl)))))))
   where
@@ -124,54 +129,41 @@ display-room k t es came built i out =
         lt-ltb 0 (k * t) (mul-le-mul {n₁ = 1} {m₁ = 1} {n₂ = k} {m₂ = t} (ltb-false k 1 f) (omega arith))
     measured-is false f g = refl
 
--- what the layer below answered, told
-module _ (k t : ℕ) (es : List ℕ) (came built i : ℕ) where
-  pub called-place : {out now : List ℕ} {r : ℕ} (m : ℕ) (o : Outcome Place) → m ≡ pick (ltb (length out) 2) 0 built → o ≡ located k t es came m i
-      → Called (then_roomed out (listed place_numbers o)) out now r → Called (displayed k t es came built i out) out now r
-  called-place {out} {now} {r} m o e q w =
-      called-as (λ (x : Outcome (List ℕ)). x) (sym (display-room k t es came built i out))
-      (called-as (λ (n : ℕ). then_roomed out (listed place_numbers (located k t es came n i))) e
-      (called-as (λ (x : Outcome Place). then_roomed out (listed place_numbers x)) q w))
-
--- v is told as w is
-pub told-as : (v w : Verdict) {f g : List ℕ} → v ≡ w → Kept (given (lacking w)) f g → (verdict_code w ≡ verdict_code v) × Kept (given (lacking v)) f g
-told-as v w {f} {g} e h = (ap verdict_code (sym e), subst (λ (x : Verdict). Kept (given (lacking x)) f g) (sym e) h)
+-- what `locate` answered, handed over
+pub called-place : (k t : ℕ) (es : List ℕ) (came built i : ℕ) {out now : List ℕ} {m n r : ℕ} (o : Outcome Place)
+    → m ≡ pick (ltb (length out) 2) 0 built → o ≡ located k t es came m i
+    → Called (then_roomed out (listed place_numbers o)) out now n → r ≡ n → Called (displayed k t es came built i out) out now r
+called-place k t es came built i {out} o e q w z = rw (display-room k t es came built i out, ← e, ← q, z) w
 
 module _ (r : Row) (v : List ℕ) (k t : ℕ) (es xs a d o : List ℕ) where
-  -- what `solve` answers that was lent no room for rows: 8 at the latest
   never : (p : Outcome (Unit {0})) → and_room p 0 1 ≡ given tt → ⊥
   never (given u) e = given-not-refused tt 8 (sym e)
   never (refused n) e = given-not-refused tt n (sym e)
 
+  -- what `solve` answers that was lent no room for rows: 8 at the latest
   without : and_room (admitted r v k t es xs a d o) 0 1 ≡ admitted r v k t es xs [] d o
   without = no_rows r (length v) k t (length es) (any_large es) (length xs) (length a) (length d) (length o)
 
-  pub rows-wanted : (a₁ d₁ o₁ : List ℕ) (y : Solution) (x : Verdict) → Solves r v k t es xs [] d o a₁ d₁ o₁ y → y ≡ Given x → ⊥
-  rows-wanted a₁ d₁ o₁ y x h e = never (admitted r v k t es xs a d o) (without ∙ (subst (Solves r v k t es xs [] d o a₁ d₁ o₁) e h).0)
-
-  pub rows-refused : (a₁ d₁ o₁ : List ℕ) {n : ℕ} (y : Solution) (w : Refusal) → Solves r v k t es xs [] d o a₁ d₁ o₁ y → y ≡ Refused w → n ≡ code_of w
-      → (n ≡ code (taken r v k t es xs a d o [])) × ((a₁ ++ a ≡ a) × (d₁ ≡ d) × (o₁ ≡ o))
-  rows-refused a₁ d₁ o₁ {n} y w h e q =
-      let u = subst (Solves r v k t es xs [] d o a₁ d₁ o₁) e h in
-      (q ∙ ap code (sym (without ∙ u.0)), (ap (λ (l : List ℕ). l ++ a) u.1, u.2, u.3))
-
   module _ (f a₁ d₁ o₁ : List ℕ) {n : ℕ} where
-    pub told-unroomed : length f < 1 → n ≡ code (taken r v k t es xs a d o []) → (a₁ ≡ a) × (d₁ ≡ d) × (o₁ ≡ o) → Solving r v k t es xs a d o f a₁ d₁ o₁ f n
-    told-unroomed h q u = go (admitted r v k t es xs a d o) q
+    -- a call without room for the shortfall
+    unroomed : length f < 1 → n ≡ code (taken r v k t es xs a d o []) → (a₁ ≡ a) × (d₁ ≡ d) × (o₁ ≡ o) → Solving r v k t es xs a d o f a₁ d₁ o₁ f n
+    unroomed h q u = go (admitted r v k t es xs a d o) q
       where
         go : (p : Outcome (Unit {0})) → n ≡ code (and_room p 0 1) → SolvingBy (and_room p (length f) 1) r v k t es xs a d o f a₁ d₁ o₁ f n
         go (given x) e = rw (lt-ltb (length f) 1 h) (e, u.0, u.1, u.2, refl)
         go (refused m) e = (e, u.0, u.1, u.2, refl)
 
-    pub told-given : (f₁ : List ℕ) (y : Solution) (x : Verdict) → 1 ≤ length f → Solves r v k t es xs a d o a₁ d₁ o₁ y → y ≡ Given x
-        → (n ≡ verdict_code x) × Kept (given (lacking x)) f f₁ → Solving r v k t es xs a d o f a₁ d₁ o₁ f₁ n
-    told-given f₁ y x l h e q =
-        let u = subst (Solves r v k t es xs a d o a₁ d₁ o₁) e h in
+    -- a call with room
+    pub told-solved : (f₁ : List ℕ) (y : Result Verdict Refusal) → 1 ≤ length f → Solves r v k t es xs a d o a₁ d₁ o₁ y
+        → n ≡ solution_code y → Kept (lacking_in y) f f₁ → Solving r v k t es xs a d o f a₁ d₁ o₁ f₁ n
+    told-solved f₁ (Ok x) l u q m =
         subst (λ (p : Outcome (Unit {0})). SolvingBy (and_room p (length f) 1) r v k t es xs a d o f a₁ d₁ o₁ f₁ n) (sym u.0)
-        (rw (le-ltb (length f) 1 l) (x, u, q.0, q.1))
+        (rw (le-ltb (length f) 1 l) (x, u, q, m))
+    told-solved f₁ (Err w) l u q m =
+        subst (λ (p : Outcome (Unit {0})). SolvingBy (and_room p (length f) 1) r v k t es xs a d o f a₁ d₁ o₁ f₁ n) (sym u.0) (q, u.1, u.2, u.3, m)
 
-    pub told-refused : (y : Solution) (w : Refusal) → Solves r v k t es xs a d o a₁ d₁ o₁ y → y ≡ Refused w → n ≡ code_of w
-        → Solving r v k t es xs a d o f a₁ d₁ o₁ f n
-    told-refused y w h e q =
-        let u = subst (Solves r v k t es xs a d o a₁ d₁ o₁) e h in
-        subst (λ (p : Outcome (Unit {0})). SolvingBy (and_room p (length f) 1) r v k t es xs a d o f a₁ d₁ o₁ f n) (sym u.0) (q, u.1, u.2, u.3, refl)
+  pub told-unroomed : (f a₁ d₁ o₁ : List ℕ) {n : ℕ} (y : Result Verdict Refusal) → length f < 1 → Solves r v k t es xs [] d o a₁ d₁ o₁ y
+      → n ≡ code (outcome y) → Solving r v k t es xs a d o f (a₁ ++ a) d₁ o₁ f n
+  told-unroomed f a₁ d₁ o₁ (Ok x) h u q = absurd (never (admitted r v k t es xs a d o) (without ∙ u.0))
+  told-unroomed f a₁ d₁ o₁ (Err w) h u q =
+      unroomed f (a₁ ++ a) d₁ o₁ h (q ∙ ap code (sym (without ∙ u.0))) (ap (λ (l : List ℕ). l ++ a) u.1, u.2, u.3)

@@ -1,8 +1,9 @@
 -- The C interface: what a call returns, and what it leaves in the slice that it was lent for its values.
 -- Assumes nothing.
-use Rattle.std.specs.Prelude.{◌≡◌, List, [], ◌∷◌, ℕ, ltb, length, get_or}
-use Rattle.field.specs.Answer.{Outcome, given, refused, unless, before}
+use Rattle.std.specs.Prelude.{◌≡◌, List, [], ◌∷◌, Result, ℕ, ltb, length, get_or}
+use Rattle.field.specs.Answer.{Outcome, given, refused, unless, before, outcome}
 use Rattle.field.specs.Runs.{Written}
+use Rattle.field.specs.declared.refusal.Refusal.{Refusal}
 
 -- 0 where the call was done, else the refusal's code: its number in the low byte, and its part above
 abbrev pub code : {A : Type 0} → Outcome A → ℕ
@@ -42,10 +43,10 @@ single x = x ∷ []
 
 -- A call of which C is told only whether it was done: the layer below answered `below` and made ys of the store, as its contract C says, and r is
 -- the code of that answer.
-pub record Reports {R A : Type 0} (of : R → Outcome A) (C : R → List ℕ → Type 0) (r : ℕ) (ys : List ℕ) : Type 0 where
-  pub below : R
+pub record Reports {A : Type 0} (C : Result A Refusal → List ℕ → Type 0) (r : ℕ) (ys : List ℕ) : Type 0 where
+  pub below : Result A Refusal
   pub meets : C below ys
-  pub result : r ≡ code (of below)
+  pub result : r ≡ code (outcome below)
 
 -- what is told of a list besides: how many places were written
 abbrev pub many : List ℕ → List ℕ

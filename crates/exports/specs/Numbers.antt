@@ -3,6 +3,7 @@
 use Rattle.std.specs.Prelude.{List, [], ◌∷◌, ℕ}
 use Rattle.headers.specs.declared.payload_id.PayloadId.{PayloadId}
 use Rattle.headers.specs.declared.transmission.ObjectTransmissionInformation.{ObjectTransmissionInformation}
+use Rattle.headers.specs.declared.partition.Parts.{Parts}
 use Rattle.headers.specs.declared.row.Row.{Row}
 use Rattle.headers.specs.declared.tuple.Tuple.{Tuple}
 use Rattle.slabs.specs.declared.symbol_slab.SymbolSlab.{SymbolSlab}
@@ -23,6 +24,9 @@ info_numbers o =
 
 abbrev pub packet_numbers : PayloadId × ℕ × ℕ → List ℕ
 packet_numbers p = p.0.source_block_number ∷ p.0.encoding_symbol_id ∷ p.1 ∷ p.2 ∷ []
+
+abbrev pub parts_numbers : Parts → List ℕ
+parts_numbers p = p.il ∷ p.is ∷ p.jl ∷ p.js ∷ []
 
 -- any nine numbers: whether they are a record of the check is for each call to say
 abbrev pub row : ℕ → ℕ → ℕ → ℕ → ℕ → ℕ → ℕ → ℕ → ℕ → Row

@@ -1,12 +1,11 @@
 -- The calls that write a run or a symbol and tell whether it is all 0 now, and the refusals of those that hand over values of a matrix.
 -- Assumes nothing.
-use Rattle.std.specs.Prelude.{◌≡◌, Bool, not, List, ℕ, ◌-◌, eqb, ltb, length}
-use Rattle.field.specs.Answer.{Outcome, Tells, before, given, refused, unless}
+use Rattle.std.specs.Prelude.{◌≡◌, Bool, not, List, Result, ℕ, ◌-◌, eqb, ltb, length}
+use Rattle.field.specs.Answer.{Outcome, Tells, before, given, outcome, refused, unless}
 use Rattle.field.specs.Choice.{pick}
 use Rattle.field.specs.Runs.{added, fused, scaled}
 use Rattle.field.specs.Ones.{ones}
-use Rattle.slabs.specs.Slab.{changed_outcome}
-use Rattle.slabs.specs.declared.symbol_slab.Changed.{Changed}
+use Rattle.field.specs.declared.refusal.Refusal.{Refusal}
 use Rattle.stores.specs.Matrix.{entry, limited, listable}
 use Rattle.stores.specs.declared.matrix.DenseBinaryMatrix.{DenseBinaryMatrix}
 use Rattle.exports.specs.Call.{Called, and_room, listed, single}
@@ -17,12 +16,12 @@ flag zero = single (pick zero 1 0)
 
 -- A call that was refused before the layer below was asked, or that hands over what this answered: C is the contract below, of the store that was xs and
 -- is ys; the flag went to the slice that was out and is out'.
-abbrev pub ToldBy : Outcome (Unit {0}) → (Changed → List ℕ → Type 0) → (xs ys out out' : List ℕ) → ℕ → Type 0
-ToldBy (given _) C xs ys out out' r = (below : Changed) × C below ys × Called (listed flag (changed_outcome below)) out out' r
+abbrev pub ToldBy : Outcome (Unit {0}) → (Result Bool Refusal → List ℕ → Type 0) → (xs ys out out' : List ℕ) → ℕ → Type 0
+ToldBy (given _) C xs ys out out' r = (below : Result Bool Refusal) × C below ys × Called (listed flag (outcome below)) out out' r
 ToldBy (refused n) C xs ys out out' r = (r ≡ n) × (ys ≡ xs) × (out' ≡ out)
 
 -- what is asked first: the call's limits, then room for the flag
-pub record TellsZero (limits : Outcome (Unit {0})) (C : Changed → List ℕ → Type 0) (xs ys out out' : List ℕ) (r : ℕ) : Type 0 where
+pub record TellsZero (limits : Outcome (Unit {0})) (C : Result Bool Refusal → List ℕ → Type 0) (xs ys out out' : List ℕ) (r : ℕ) : Type 0 where
   pub zero : ToldBy (and_room limits (length out) 1) C xs ys out out' r
 
 -- a count of symbols out of range
@@ -34,14 +33,14 @@ abbrev pub same_length : List ℕ → List ℕ → Outcome (Unit {0})
 same_length xs ys = unless (not (eqb (length xs) (length ys))) 8 (given tt)
 
 -- the calls on runs, which the layer below does not refuse: xs is the run at entry, s the other run
-abbrev pub RunAdded : List ℕ → List ℕ → Changed → List ℕ → Type 0
-RunAdded xs s = Tells changed_outcome (same_length xs s) xs (added xs 0 s) 0 (length s)
+abbrev pub RunAdded : List ℕ → List ℕ → Result Bool Refusal → List ℕ → Type 0
+RunAdded xs s = Tells (same_length xs s) xs (added xs 0 s) 0 (length s)
 
-abbrev pub RunScaled : List ℕ → ℕ → Changed → List ℕ → Type 0
-RunScaled xs c = Tells changed_outcome (given tt) xs (scaled c xs) 0 (length xs)
+abbrev pub RunScaled : List ℕ → ℕ → Result Bool Refusal → List ℕ → Type 0
+RunScaled xs c = Tells (given tt) xs (scaled c xs) 0 (length xs)
 
-abbrev pub RunFused : List ℕ → List ℕ → ℕ → Changed → List ℕ → Type 0
-RunFused xs s c = Tells changed_outcome (same_length xs s) xs (fused xs 0 c s) 0 (length s)
+abbrev pub RunFused : List ℕ → List ℕ → ℕ → Result Bool Refusal → List ℕ → Type 0
+RunFused xs s c = Tells (same_length xs s) xs (fused xs 0 c s) 0 (length s)
 
 -- a height or width out of range (2), then no room for one value (8)
 abbrev pub sized : ℕ → ℕ → List ℕ → Outcome (Unit {0})

@@ -1,15 +1,11 @@
 // The intake of a block, packet by packet, any number of them (document 02, E1 and E14). The caller keeps state, pivots and stores between the calls.
-ghost use Rattle.std.specs.Prelude.{◌≡◌};
-ghost use Rattle.field.specs.Answer.{done, refused};
-ghost use Rattle.intake.specs.Night.{Admitted, Begins, Unchanged};
+ghost use Rattle.intake.specs.Night.{Begins};
 ghost use Rattle.exports.specs.Call.{Reports};
 ghost use Rattle.exports.specs.Intakes.{Packeted, Questioned};
 ghost use Rattle.exports.specs.Numbers.{row};
 
 use crate::values::{handed_row, tell, told};
-use field::refusal::code;
 use intake::intake::{begin, packet, question};
-use solver::solver::Solution;
 
 // Begins anew with a row, tables, `count` source symbols of t octets. Of pivots and stores only the lengths matter.
 #[unsafe(no_mangle)]
@@ -31,7 +27,7 @@ pub extern "C" fn spoonripple_intake_begin(
     rows: &[u8],
     values: &[u8],
 ) -> u32
-    ensures { Reports done
+    ensures { Reports
         (λ a ys. Begins (row k j s h w l p b p1) tables.now count t state.old pivots.now rows.now
         values.now ys a) result state.new }
 {
@@ -55,25 +51,6 @@ pub extern "C" fn spoonripple_intake_packet(
     told(packet(esi, symbol, state, pivots, rows, values))
 }
 
-// The refusal of a question that was lent no room for a shortfall: with no room for symbols `question` refuses, by 8 at the latest.
-fn unroomed_question(
-    state: &mut [u32],
-    pivots: &mut [u16],
-    rows: &mut [u8],
-    values: &mut [u8],
-    out: &mut [u8],
-) -> u32
-    ensures admitted { Admitted state.old pivots.old (refused 8) (refused result) }
-    ensures unchanged { Unchanged state.old pivots.old rows.old values.old
-        state.new pivots.new rows.new values.new × (out.new ≡ out.old) }
-{
-    let none = &mut out[0..0];
-    match question(state, pivots, rows, values, none) {
-        Solution::Given(_) => 8,
-        Solution::Refused(why) => code(why),
-    }
-}
-
 // Of all packets since the last accepted begin: 0 solved, with the symbols in `out`, 100 contradiction, 101 open.
 #[unsafe(no_mangle)]
 pub extern "C" fn spoonripple_intake_question(
@@ -87,11 +64,11 @@ pub extern "C" fn spoonripple_intake_question(
     ensures { Questioned state.old pivots.old rows.old values.old out.old shortfall.old
         state.new pivots.new rows.new values.new out.new shortfall.new result }
 {
-    if shortfall.len() < 1 {
-        return unroomed_question(state, pivots, rows, values, out);
+    if shortfall.is_empty() {
+        // With no room for symbols `question` refuses, by 8 at the latest, and so does a question that was lent no room for the shortfall.
+        let none = &mut out[..0];
+        return told(question(state, pivots, rows, values, none));
     }
-    match question(state, pivots, rows, values, out) {
-        Solution::Given(v) => tell(v, shortfall),
-        Solution::Refused(why) => code(why),
-    }
+    let answer = question(state, pivots, rows, values, out);
+    tell(answer, shortfall)
 }

@@ -2,30 +2,38 @@
 ghost use Rattle.std.specs.Prelude.{[], ◌∷◌};
 ghost use Rattle.field.specs.Octet.{plus, times};
 ghost use Rattle.field.specs.Answer.{divided, given, raised};
-ghost use Rattle.exports.specs.Call.{Called, listed, single, roomed, then_roomed};
+ghost use Rattle.exports.specs.Call.{Called, listed, roomed, single, then_roomed};
 
-use crate::values::{hand_octet, hand_one};
+use crate::values::{Numbers, hand, room, told};
 use field::octet;
+
+impl Numbers<1> for u8 {
+    ghost numbers = { single };
+
+    fn numbers(self) -> [u64; 1] {
+        [u64::from(self)]
+    }
+}
 
 #[unsafe(no_mangle)]
 pub extern "C" fn spoonripple_octet_add(a: u8, b: u8, out: &mut [u64]) -> u32
     ensures { Called (roomed out.old 1 (given (plus a b ∷ []))) out.old out.new result }
 {
-    hand_one(octet::add(a, b) as u64, out)
+    told(hand(Ok(octet::add(a, b)), out))
 }
 
 #[unsafe(no_mangle)]
 pub extern "C" fn spoonripple_octet_sub(a: u8, b: u8, out: &mut [u64]) -> u32
     ensures { Called (roomed out.old 1 (given (plus a b ∷ []))) out.old out.new result }
 {
-    hand_one(octet::sub(a, b) as u64, out)
+    told(hand(Ok(octet::sub(a, b)), out))
 }
 
 #[unsafe(no_mangle)]
 pub extern "C" fn spoonripple_octet_mul(a: u8, b: u8, out: &mut [u64]) -> u32
     ensures { Called (roomed out.old 1 (given (times a b ∷ []))) out.old out.new result }
 {
-    hand_one(octet::mul(a, b) as u64, out)
+    told(hand(Ok(octet::mul(a, b)), out))
 }
 
 // a + b · c
@@ -33,7 +41,7 @@ pub extern "C" fn spoonripple_octet_mul(a: u8, b: u8, out: &mut [u64]) -> u32
 pub extern "C" fn spoonripple_octet_fma(a: u8, b: u8, c: u8, out: &mut [u64]) -> u32
     ensures { Called (roomed out.old 1 (given (plus a (times b c) ∷ []))) out.old out.new result }
 {
-    hand_one(octet::fma(a, b, c) as u64, out)
+    told(hand(Ok(octet::fma(a, b, c)), out))
 }
 
 // A store without room (8) comes before a divisor of 0 (1).
@@ -41,10 +49,10 @@ pub extern "C" fn spoonripple_octet_fma(a: u8, b: u8, c: u8, out: &mut [u64]) ->
 pub extern "C" fn spoonripple_octet_div(a: u8, by: u8, out: &mut [u64]) -> u32
     ensures { Called (roomed out.old 1 (listed single (divided a by))) out.old out.new result }
 {
-    if out.len() < 1 {
-        return 8;
+    if let Err(why) = room(out, 1) {
+        return why.code();
     }
-    hand_octet(octet::div(a, by), out)
+    told(hand(octet::div(a, by), out))
 }
 
 // alpha to the power i; an exponent out of range (2) comes before a store without room (8).
@@ -52,5 +60,5 @@ pub extern "C" fn spoonripple_octet_div(a: u8, by: u8, out: &mut [u64]) -> u32
 pub extern "C" fn spoonripple_octet_alpha(i: usize, out: &mut [u64]) -> u32
     ensures { Called (then_roomed out.old (listed single (raised i))) out.old out.new result }
 {
-    hand_octet(octet::alpha(i), out)
+    told(hand(octet::alpha(i), out))
 }

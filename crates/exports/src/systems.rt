@@ -1,14 +1,11 @@
 // The rows of the linear system (RFC 6330, sections 5.3.3.3 and 5.3.5.3). A row of parameters is its record: K', J, S, H, W, L, P, B, P1.
 ghost use Rattle.std.specs.Prelude.{◌+◌};
-ghost use Rattle.field.specs.Answer.{done};
-ghost use Rattle.headers.specs.Number.{number_outcome};
-ghost use Rattle.stores.specs.Matrix.{matrix_outcome};
 ghost use Rattle.constraints.specs.Answers.{HdpcRows, Walked};
 ghost use Rattle.builders.specs.Built.{Builds};
 ghost use Rattle.exports.specs.Call.{Reports};
 ghost use Rattle.exports.specs.Numbers.{row, tuple};
 
-use crate::values::{handed_row, told, told_matrix, told_number};
+use crate::values::{handed_row, told};
 use builders::constraint_matrix;
 use constraints::constraint_matrix as rows;
 use headers::tuple::Tuple;
@@ -33,7 +30,7 @@ pub extern "C" fn spoonripple_enc_indices(
     b1: u32,
     list: &mut [u32],
 ) -> u32
-    ensures { Reports number_outcome (λ n ys. Walked (row k j s h w l p b p1) (tuple d a tuple_b d1 a1 b1) list.old ys n)
+    ensures { Reports (λ n ys. Walked (row k j s h w l p b p1) (tuple d a tuple_b d1 a1 b1) list.old ys n)
         result list.new }
 {
     let r = handed_row(k, j, s, h, w, l, p, b, p1);
@@ -45,7 +42,7 @@ pub extern "C" fn spoonripple_enc_indices(
         a1,
         b1,
     };
-    told_number(rows::enc_indices(r, t, list))
+    told(rows::enc_indices(r, t, list))
 }
 
 // H rows of L octets, row after row, at the front of `store`.
@@ -63,7 +60,7 @@ pub extern "C" fn spoonripple_hdpc_rows(
     tables: &[u32],
     store: &mut [u8],
 ) -> u32
-    ensures { Reports done (λ a ys. HdpcRows tables.now (row k j s h w l p b p1) store.old ys a) result store.new }
+    ensures { Reports (λ a ys. HdpcRows tables.now (row k j s h w l p b p1) store.old ys a) result store.new }
 {
     let r = handed_row(k, j, s, h, w, l, p, b, p1);
     told(rows::generate_hdpc_rows(r, tables, store))
@@ -85,11 +82,11 @@ pub extern "C" fn spoonripple_constraint_matrix(
     isis: &[u32],
     words: &mut [u64],
 ) -> u32
-    ensures { Reports matrix_outcome (λ m ys. Builds tables.now isis.now (row k j s h w l p b p1) h k words.old ys m)
+    ensures { Reports (λ m ys. Builds tables.now isis.now (row k j s h w l p b p1) h k words.old ys m)
         result words.new }
 {
     let r = handed_row(k, j, s, h, w, l, p, b, p1);
-    told_matrix(constraint_matrix::generate_constraint_matrix(r, tables, isis, words))
+    told(constraint_matrix::generate_constraint_matrix(r, tables, isis, words))
 }
 
 // Rows of bits: LDPC, one for each ISI.
@@ -108,9 +105,9 @@ pub extern "C" fn spoonripple_constraint_matrix_no_hdpc(
     isis: &[u32],
     words: &mut [u64],
 ) -> u32
-    ensures { Reports matrix_outcome
+    ensures { Reports
         (λ m ys. Builds tables.now isis.now (row k j s h w l p b p1) 0 (k + h) words.old ys m) result words.new }
 {
     let r = handed_row(k, j, s, h, w, l, p, b, p1);
-    told_matrix(constraint_matrix::generate_constraint_matrix_no_hdpc(r, tables, isis, words))
+    told(constraint_matrix::generate_constraint_matrix_no_hdpc(r, tables, isis, words))
 }

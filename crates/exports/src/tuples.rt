@@ -8,28 +8,63 @@ ghost use Rattle.headers.specs.Tuples.{tuple_answer};
 ghost use Rattle.exports.specs.Call.{Called, listed, single, then_roomed};
 ghost use Rattle.exports.specs.Numbers.{row, row_numbers, tuple_numbers};
 
-use crate::values::{hand, hand_number, hand_one, handed_row};
-use field::refusal::code;
-use headers::ids::{Esi, Shifted};
-use headers::row::Checked;
-use headers::tuple::Generated;
+use crate::values::{Numbers, hand, handed_row, told};
+use headers::ids::{Esi, Isi};
+use headers::row::Row;
+use headers::tuple::Tuple;
 use headers::{deg, ids, rng, row, tuple};
+
+impl Numbers<1> for u32 {
+    ghost numbers = { single };
+
+    fn numbers(self) -> [u64; 1] {
+        [u64::from(self)]
+    }
+}
+
+impl Numbers<1> for Isi {
+    ghost numbers = { λ x. single x.0 };
+
+    fn numbers(self) -> [u64; 1] {
+        ids::number(self).numbers()
+    }
+}
+
+// The record that the check makes: K', J, S, H, W, L, P, B, P1.
+impl Numbers<9> for Row {
+    ghost numbers = { row_numbers };
+
+    fn numbers(self) -> [u64; 9] {
+        [
+            self.kp, self.j, self.s, self.h, self.w, self.l, self.p, self.b, self.p1,
+        ]
+        .map(u64::from)
+    }
+}
+
+// d, a, b, d1, a1, b1.
+impl Numbers<6> for Tuple {
+    ghost numbers = { tuple_numbers };
+
+    fn numbers(self) -> [u64; 6] {
+        [self.d, self.a, self.b, self.d1, self.a1, self.b1].map(u64::from)
+    }
+}
 
 #[unsafe(no_mangle)]
 pub extern "C" fn spoonripple_rand(tables: &[u32], y: u32, i: u8, m: u32, out: &mut [u64]) -> u32
     ensures { Called (then_roomed out.old (listed single (rand_answer tables.now y i m))) out.old out.new result }
 {
-    hand_number(rng::rand(tables, y, i, m), out)
+    told(hand(rng::rand(tables, y, i, m), out))
 }
 
 #[unsafe(no_mangle)]
 pub extern "C" fn spoonripple_deg(v: u32, w: u32, out: &mut [u64]) -> u32
     ensures { Called (then_roomed out.old (listed single (deg_answer v w))) out.old out.new result }
 {
-    hand_number(deg::deg(v, w), out)
+    told(hand(deg::deg(v, w), out))
 }
 
-// Values, of the record that the check makes: K', J, S, H, W, L, P, B, P1.
 #[unsafe(no_mangle)]
 pub extern "C" fn spoonripple_row_check(
     k: u32,
@@ -41,23 +76,7 @@ pub extern "C" fn spoonripple_row_check(
 ) -> u32
     ensures { Called (then_roomed out.old (listed row_numbers (row_checked k j s h w))) out.old out.new result }
 {
-    match row::check(k, j, s, h, w) {
-        Checked::Value(r) => {
-            let values = [
-                r.kp as u64,
-                r.j as u64,
-                r.s as u64,
-                r.h as u64,
-                r.w as u64,
-                r.l as u64,
-                r.p as u64,
-                r.b as u64,
-                r.p1 as u64,
-            ];
-            hand(&values, out)
-        }
-        Checked::Refused(why) => code(why),
-    }
+    told(hand(row::check(k, j, s, h, w), out))
 }
 
 // The ISI of an ESI, in a block of `count` source symbols.
@@ -80,13 +99,10 @@ pub extern "C" fn spoonripple_isi(
         out.old out.new result }
 {
     let r = handed_row(k, j, s, h, w, l, p, b, p1);
-    match ids::isi_of(r, count, Esi(esi)) {
-        Shifted::Value(x) => hand_one(ids::number(x) as u64, out),
-        Shifted::Refused(why) => code(why),
-    }
+    told(hand(ids::isi_of(r, count, Esi(esi)), out))
 }
 
-// Values: d, a, b, d1, a1, b1. The ISI is a row's number of any 32 bits, not what was sent: that goes through spoonripple_isi first.
+// The ISI is a row's number of any 32 bits, not what was sent: that goes through spoonripple_isi first.
 #[unsafe(no_mangle)]
 pub extern "C" fn spoonripple_tuple(
     k: u32,
@@ -107,18 +123,5 @@ pub extern "C" fn spoonripple_tuple(
 {
     let r = handed_row(k, j, s, h, w, l, p, b, p1);
     let x = ids::beneath::row_number(isi);
-    match tuple::intermediate_tuple(r, tables, x) {
-        Generated::Value(t) => {
-            let values = [
-                t.d as u64,
-                t.a as u64,
-                t.b as u64,
-                t.d1 as u64,
-                t.a1 as u64,
-                t.b1 as u64,
-            ];
-            hand(&values, out)
-        }
-        Generated::Refused(why) => code(why),
-    }
+    told(hand(tuple::intermediate_tuple(r, tables, x), out))
 }

@@ -4,14 +4,13 @@ use mathlib.Core.Path.{◌≡◌, refl, sym, ap, ap₂, ◌∙◌}
 use Prim.Native.Nat.{ℕ, suc, ◌≤◌, ◌<◌}
 use native.Mathlib.Omega.{arith}
 use lib.Dec.{eqb}
+use Rattle.std.specs.Prelude.{Result, Ok, Err}
 use Rattle.field.specs.Choice.{pick}
-use Rattle.field.specs.Answer.{Outcome, given, refused, number_of, place_of, part_of, number_in, part_in, code_of, octet_outcome}
+use Rattle.field.specs.Answer.{Outcome, given, refused, number_of, place_of, part_of, number_in, part_in, code_of, outcome, outcome_of}
 use Rattle.field.specs.declared.refusal.Part.{Part}
 use Rattle.field.specs.declared.refusal.Part.TheVariants as Parts
 use Rattle.field.specs.declared.refusal.Refusal.{Refusal}
 use Rattle.field.specs.declared.refusal.Refusal.TheVariants as Why
-use Rattle.field.specs.declared.octet.Answer.{Answer}
-use Rattle.field.specs.declared.octet.Answer.TheVariants as Answers
 use Rattle.field.proofs.Computed.{equals}
 
 pub given-only : {A : Type 0} (a b : A) → given a ≡ given b → a ≡ b
@@ -141,19 +140,29 @@ named-code w = ap₂ named_by (code-number w) (code-part w) ∙ named-by w
 pub code-only : (v w : Refusal) → code_of v ≡ code_of w → v ≡ w
 code-only = read_back code_of named named-code
 
--- an answer read back from an outcome: a value, or the refusal of that code
-abbrev pub answer_of : {A X : Type 0} → (X → A) → (Refusal → A) → Outcome X → A
-answer_of value refusal (given x) = value x
-answer_of value refusal (refused n) = refusal (named n)
+-- an answer read back from what it stands for
+abbrev answer_of : {A : Type 0} → Outcome A → Result A Refusal
+answer_of (given a) = Ok a
+answer_of (refused n) = Err (named n)
 
--- the one law of all answers
-pub answer-only : {A X : Type 0} (of : A → Outcome X) (value : X → A) (refusal : Refusal → A) → ((a : A) → answer_of value refusal (of a) ≡ a)
-    → (p q : A) → of p ≡ of q → p ≡ q
-answer-only of value refusal = read_back of (answer_of value refusal)
+answer-back : {A : Type 0} (r : Result A Refusal) → answer_of (outcome r) ≡ r
+answer-back (Ok a) = refl
+answer-back (Err why) = ap Err (named-code why)
 
-octet-back : (a : Answer) → answer_of Answers.Octet Answers.Refused (octet_outcome a) ≡ a
-octet-back (Answers.Octet x) = refl
-octet-back (Answers.Refused w) = ap Answers.Refused (named-code w)
+-- the one law of all answers: an answer is settled by what it stands for
+pub outcome-only : {A : Type 0} (p q : Result A Refusal) → outcome p ≡ outcome q → p ≡ q
+outcome-only = read_back outcome answer_of answer-back
 
-pub outcome-only : (p q : Answer) → octet_outcome p ≡ octet_outcome q → p ≡ q
-outcome-only = answer-only octet_outcome Answers.Octet Answers.Refused octet-back
+-- and one whose value is read by a view, where the value can be read back
+module _ {A B : Type 0} (view : A → B) (read : B → A) (back : (a : A) → read (view a) ≡ a) where
+  viewed : Outcome B → Result A Refusal
+  viewed (given b) = Ok (read b)
+  viewed (refused n) = Err (named n)
+
+  viewed-back : (r : Result A Refusal) → viewed (outcome_of view r) ≡ r
+  unfolding viewed
+  viewed-back (Ok a) = ap Ok (back a)
+  viewed-back (Err why) = ap Err (named-code why)
+
+  pub outcome_of-only : (p q : Result A Refusal) → outcome_of view p ≡ outcome_of view q → p ≡ q
+  outcome_of-only = read_back (outcome_of view) viewed viewed-back

@@ -39,6 +39,10 @@ bit P p q zero h = p
 bit P p q (suc zero) h = q
 bit P p q (suc (suc x)) h = absurd (omega arith)
 
+-- an octet times a bit is an octet
+times_bit-lt : (a b : ℕ) → a < 256 → a * (b % 2) < 256
+times_bit-lt a b h = bit (λ (x : ℕ). a * x < 256) (simp mul-zero (omega arith)) (simp mul-one h) (b % 2) (omega arith)
+
 -- a sum times a bit, and a number times a sum of bits
 by_bit : (a b x : ℕ) → x < 2 → plus a b * x ≡ plus (a * x) (b * x)
 by_bit a b =
@@ -70,7 +74,7 @@ unfolding copies
 copies-lt zero a b h = omega arith
 copies-lt (suc n) a b h =
     xor_lt 8 (a * (b % 2)) (doubled (copies n a (b / 2)))
-    (bit (λ (x : ℕ). a * x < 256) (simp mul-zero (omega arith)) (simp mul-one h) (b % 2) (omega arith))
+    (times_bit-lt a b h)
     (doubled-lt (copies n a (b / 2)) (copies-lt n a (b / 2) h))
 
 copies-left : (n a c b : ℕ) → a < 256 → c < 256 → copies n (plus a c) b ≡ plus (copies n a b) (copies n c b)
@@ -102,10 +106,11 @@ unfolding copies
 copies-doubled zero a b h = doubled-zero
 copies-doubled (suc n) a b h =
     doubled-plus (a * (b % 2)) (doubled (copies n a (b / 2)))
-    (bit (λ (x : ℕ). a * x < 256) (simp mul-zero (omega arith)) (simp mul-one h) (b % 2) (omega arith))
+    (times_bit-lt a b h)
     (doubled-lt (copies n a (b / 2)) (copies-lt n a (b / 2) h))
     ∙ ap₂ plus
-    (bit (λ (x : ℕ). doubled (a * x) ≡ doubled a * x) (rw (mul-zero a, mul-zero (doubled a)) doubled-zero) (rw (mul-one a, mul-one (doubled a))) (b % 2) (omega arith))
+    (bit (λ (x : ℕ). doubled (a * x) ≡ doubled a * x)
+    (rw (mul-zero a, mul-zero (doubled a)) doubled-zero) (rw (mul-one a, mul-one (doubled a))) (b % 2) (omega arith))
     (ap doubled (copies-doubled n a (b / 2) h))
 
 copies-mod : (n a b : ℕ) → copies n a (b % 2 ^ n) ≡ copies n a b
@@ -155,7 +160,8 @@ module _ {f g : ℕ → ℕ} (lf : Linear f) (lg : Linear g) (same : (i : ℕ) �
   agree-to (suc k) h a ha =
       let e : plus (a / 2 ^ k * 2 ^ k) (a % 2 ^ k) ≡ a = xor_shifted (a / 2 ^ k) k (a % 2 ^ k) (mod-lt a (pow_pos k)) ∙ split a k in
       sym (ap f e) ∙ lf.sum (a / 2 ^ k * 2 ^ k) (a % 2 ^ k)
-      ∙ ap₂ plus (top k (omega arith) (a / 2 ^ k) (shr_lt 1 k (rw (add_comm 1 k, add-one) ha))) (agree-to k (omega arith) (a % 2 ^ k) (mod-lt a (pow_pos k)))
+      ∙ ap₂ plus (top k (omega arith) (a / 2 ^ k) (shr_lt 1 k (rw (add_comm 1 k, add-one) ha)))
+      (agree-to k (omega arith) (a % 2 ^ k) (mod-lt a (pow_pos k)))
       ∙ sym (lg.sum (a / 2 ^ k * 2 ^ k) (a % 2 ^ k)) ∙ ap g e
 
   pub agree : (a : ℕ) → f a ≡ g a

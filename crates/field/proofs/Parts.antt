@@ -30,8 +30,8 @@ blank-next xs {x = x} b z k h l = go (dec_lt k x)
     go (no q) = let e : k ≡ x = omega arith in ap (λ (j : ℕ). get_or xs j 0) e ∙ z
 
 -- all is 0 before x, and no octet of the n behind it is above 0
-pub blank_part : (xs : List ℕ) {from : ℕ} (x n : ℕ) {m : ℕ} → x + n ≤ length xs → Blank xs from x → AtMost m (take (x + n - x) (drop x xs)) → m ≤ 0
-    → Blank xs from (x + n)
+pub blank_part : (xs : List ℕ) {from : ℕ} (x n : ℕ) {m : ℕ} → x + n ≤ length xs → Blank xs from x
+    → AtMost m (take (x + n - x) (drop x xs)) → m ≤ 0 → Blank xs from (x + n)
 blank_part xs x n {m} fits b a e k h l = go (dec_lt k x)
   where
     go : Dec (k < x) → get_or xs k 0 ≡ 0
@@ -75,7 +75,8 @@ module _ (xs : List ℕ) (to n : ℕ) (zs : List ℕ) (fits : to + n ≤ length 
       ∙ ap (λ (m : ℕ). get_or xs m 0) (sym e₂)
 
 -- a lent part that came back written is the whole written, at the place shifted by the part's start
-module _ (xs : List ℕ) (to t : ℕ) {f : ℕ → ℕ} {zs : List ℕ} {at n : ℕ} (w : Written f (take t (drop to xs)) zs at n) (fits : to + t ≤ length xs) (inside : at + n ≤ t) where
+module _ (xs : List ℕ) (to t : ℕ) {f : ℕ → ℕ} {zs : List ℕ} {at n : ℕ} (w : Written f (take t (drop to xs)) zs at n)
+    (fits : to + t ≤ length xs) (inside : at + n ≤ t) where
   same : length zs ≡ t
   same = w.size ∙ part_length xs to t fits
 
@@ -90,7 +91,8 @@ module _ (xs : List ℕ) (to t : ℕ) {f : ℕ → ℕ} {zs : List ℕ} {at n : 
         high = λ k h. after k h (dec_lt k (to + t));
       }
     where
-      kept : (k : ℕ) → to ≤ k → k < to + t → get_or zs (k - to) 0 ≡ get_or (take t (drop to xs)) (k - to) 0 → get_or (splice xs to t zs) k 0 ≡ get_or xs k 0
+      kept : (k : ℕ) → to ≤ k → k < to + t → get_or zs (k - to) 0 ≡ get_or (take t (drop to xs)) (k - to) 0
+          → get_or (splice xs to t zs) k 0 ≡ get_or xs k 0
       kept k h b q =
           let e : to + (k - to) ≡ k = omega arith in
           ap (λ (m : ℕ). get_or (splice xs to t zs) m 0) (sym e) ∙ splice-in xs to t zs fits same (k - to) (omega arith)
@@ -105,7 +107,8 @@ module _ (xs : List ℕ) (to t : ℕ) {f : ℕ → ℕ} {zs : List ℕ} {at n : 
       after k h (no l) = splice-high xs to t zs fits same k (omega arith)
 
 -- one run of writing, and another right behind it
-module _ {f g : ℕ → ℕ} {xs ys zs : List ℕ} {at n m : ℕ} (w : Written f xs ys at n) (u : Written g ys zs (at + n) m) (e : (k : ℕ) → k < m → g k ≡ f (n + k)) where
+module _ {f g : ℕ → ℕ} {xs ys zs : List ℕ} {at n m : ℕ} (w : Written f xs ys at n) (u : Written g ys zs (at + n) m)
+    (e : (k : ℕ) → k < m → g k ≡ f (n + k)) where
   pub written_then : Written f xs zs at (n + m)
   written_then =
       record {
@@ -124,7 +127,8 @@ module _ {f g : ℕ → ℕ} {xs ys zs : List ℕ} {at n m : ℕ} (w : Written f
 
 -- the first n bytes of a list that begins with a copy of a part are that part
 pub copied : (xs old new : List ℕ) (from n : ℕ) → from + n ≤ length xs
-    → new ≡ take (length (take (from + n - from) (drop from xs))) (take (from + n - from) (drop from xs)) ++ drop (length (take (from + n - from) (drop from xs))) old
+    → new ≡ take (length (take (from + n - from) (drop from xs))) (take (from + n - from) (drop from xs))
+    ++ drop (length (take (from + n - from) (drop from xs))) old
     → take n new ≡ take n (drop from xs)
 copied xs old new from n h e =
     ap (λ (l : List ℕ). take n l) e

@@ -27,7 +27,8 @@ unfolding sum
 sum-only zero f c h e = absurd (omega arith)
 sum-only (suc n) f zero h e = ap (plus (f zero)) (sum-zero n (λ k l. e (suc k) (omega arith) (λ q. omega arith))) ∙ xor_zero_r (f zero)
 sum-only (suc n) f (suc c) h e =
-    ap₂ plus (e zero (omega arith) (λ q. omega arith)) (sum-only n (λ k. f (suc k)) c (omega arith) (λ k l q. e (suc k) (omega arith) (λ z. q (omega arith))))
+    ap₂ plus (e zero (omega arith) (λ q. omega arith))
+    (sum-only n (λ k. f (suc k)) c (omega arith) (λ k l q. e (suc k) (omega arith) (λ z. q (omega arith))))
     ∙ xor_zero_l (f (suc c))
 
 -- the last term by itself

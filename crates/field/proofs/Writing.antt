@@ -64,7 +64,7 @@ module _ {f : ℕ → ℕ} {xs ys : List ℕ} {at n : ℕ} (w : Written f xs ys 
           subst (λ (x : ℕ). get_or ys x 0 ≡ get_or zs x 0) i (w.part (k - at) (omega arith) ∙ sym (u.part (k - at) (omega arith)))
 
 -- a sum is a sum with 1 times the run
-pub added-fused : {d d₁ : List ℕ} {at n : ℕ} (s : List ℕ) (c : ℕ) → c ≡ 1 → ((i : ℕ) → get_or s i 0 < 256) → Written (added d at s) d d₁ at n
-    → Written (fused d at c s) d d₁ at n
+pub added-fused : {d d₁ : List ℕ} {at n : ℕ} (s : List ℕ) (c : ℕ) → c ≡ 1 → ((i : ℕ) → get_or s i 0 < 256)
+    → Written (added d at s) d d₁ at n → Written (fused d at c s) d d₁ at n
 added-fused {d} {at = at} s c e b w =
     written_as w (λ k h. ap (plus (get_or d (at + k) 0)) (sym (ap (λ (z : ℕ). times z (get_or s k 0)) e ∙ one-times (get_or s k 0) (b k))))

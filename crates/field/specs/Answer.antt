@@ -1,17 +1,13 @@
 -- What a call that may refuse answers: a value, or the code of the refusal, which is its number in document 01's table and its part. Every layer's
 -- answers are read so.
 -- Assumes nothing.
-use Rattle.std.specs.Prelude.{◌≡◌, Bool, true, false, List, ℕ, ◌+◌, ◌*◌, ◌/◌, ◌%◌, eqb, ltb}
+use Rattle.std.specs.Prelude.{◌≡◌, Bool, true, false, List, Result, Ok, Err, ℕ, ◌+◌, ◌*◌, ◌/◌, ◌%◌, eqb, ltb}
 use Rattle.field.specs.Octet.{power, over}
 use Rattle.field.specs.Runs.{Written, zero_from}
 use Rattle.field.specs.declared.refusal.Part.{Part}
 use Rattle.field.specs.declared.refusal.Part.TheVariants as Parts
 use Rattle.field.specs.declared.refusal.Refusal.{Refusal}
 use Rattle.field.specs.declared.refusal.Refusal.TheVariants as Why
-use Rattle.field.specs.declared.refusal.Answer as Plain
-use Rattle.field.specs.declared.refusal.Answer.TheVariants as Plains
-use Rattle.field.specs.declared.octet.Answer.{Answer}
-use Rattle.field.specs.declared.octet.Answer.TheVariants as Answers
 
 pub data Outcome (A : Type 0) : Type 0 where
   given : A → Outcome A
@@ -31,15 +27,6 @@ before (refused n) o = refused n
 abbrev pub Left : {A : Type 0} → Outcome A → List ℕ → List ℕ → Type 0 → Type 0
 Left (given a) xs ys P = P
 Left (refused n) xs ys P = ys ≡ xs
-
--- what a call that may refuse and may write does: its answer r stands for o, and memory is as it was or as P says
-abbrev pub Does : {R A : Type 0} → (R → Outcome A) → Outcome A → List ℕ → (List ℕ → Type 0) → R → List ℕ → Type 0
-Does of o xs P r ys = (of r ≡ o) × Left (of r) xs ys (P ys)
-
--- What a call that writes a symbol does (document 02, E5): where o does not refuse, the n places from `at` on are written as f says, and the answer is
--- whether they are all 0 now.
-abbrev pub Tells : {R : Type 0} → (R → Outcome Bool) → Outcome (Unit {0}) → List ℕ → (ℕ → ℕ) → (at n : ℕ) → R → List ℕ → Type 0
-Tells of o xs f at n r ys = Does of (before o (given (zero_from ys at n))) xs (λ zs. Written f xs zs at n) r ys
 
 -- document 01, 'Refusal numbers'; 14 is of document 02, E1
 abbrev pub number_of : Refusal → ℕ
@@ -95,15 +82,24 @@ part_in code = code / 256
 abbrev pub code_of : Refusal → ℕ
 code_of why = coded (number_of why) (part_of why)
 
--- what each case of an answer with no value stands for
-abbrev pub done : Plain.Answer → Outcome (Unit {0})
-done Plains.Done = given tt
-done (Plains.Refused why) = refused (code_of why)
+-- what the answer of a call stands for
+abbrev pub outcome : {A : Type 0} → Result A Refusal → Outcome A
+outcome (Ok a) = given a
+outcome (Err why) = refused (code_of why)
 
--- what each case of the octets' answer stands for
-abbrev pub octet_outcome : Answer → Outcome ℕ
-octet_outcome (Answers.Octet x) = given x
-octet_outcome (Answers.Refused why) = refused (code_of why)
+-- the same of an answer whose value is read by `view`
+abbrev pub outcome_of : {A B : Type 0} → (A → B) → Result A Refusal → Outcome B
+outcome_of view (Ok a) = given (view a)
+outcome_of view (Err why) = refused (code_of why)
+
+-- what a call that may refuse and may write does: its answer r stands for o, and memory is as it was or as P says
+abbrev pub Does : {A : Type 0} → Outcome A → List ℕ → (List ℕ → Type 0) → Result A Refusal → List ℕ → Type 0
+Does o xs P r ys = (outcome r ≡ o) × Left (outcome r) xs ys (P ys)
+
+-- What a call that writes a symbol does (document 02, E5): where o does not refuse, the n places from `at` on are written as f says, and the answer is
+-- whether they are all 0 now.
+abbrev pub Tells : Outcome (Unit {0}) → List ℕ → (ℕ → ℕ) → (at n : ℕ) → Result Bool Refusal → List ℕ → Type 0
+Tells o xs f at n r ys = Does (before o (given (zero_from ys at n))) xs (λ zs. Written f xs zs at n) r ys
 
 -- what a division answers
 abbrev pub divided : ℕ → ℕ → Outcome ℕ

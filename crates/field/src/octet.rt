@@ -3,19 +3,11 @@
 // Through the crate's tables, under the same contracts: crates/octet_tables, outside what a reader loads.
 ghost use Rattle.std.specs.Prelude.{◌≡◌, ◌%◌, eqb};
 ghost use Rattle.field.specs.Choice.{pick};
-ghost use Rattle.field.specs.Octet as octets;
 ghost use Rattle.field.specs.Octet.{over, plus, times};
-ghost use Rattle.field.specs.Answer.{divided, octet_outcome, raised};
+ghost use Rattle.field.specs.Answer.{divided, outcome, raised};
 
 use crate::doubling;
 use crate::refusal::Refusal;
-
-// What a call that may refuse answers.
-#[derive(Clone, Copy)]
-pub enum Answer {
-    Octet(u8),
-    Refused(Refusal),
-}
 
 pub fn add(a: u8, b: u8) -> u8
     ensures { result ≡ plus a b }
@@ -23,10 +15,11 @@ pub fn add(a: u8, b: u8) -> u8
     a ^ b
 }
 
+// the same as the sum
 pub fn sub(a: u8, b: u8) -> u8
     ensures { result ≡ plus a b }
 {
-    a ^ b
+    add(a, b)
 }
 
 pub fn mul(a: u8, b: u8) -> u8
@@ -61,35 +54,23 @@ fn quotient(a: u8, by: u8) -> u8
     product
 }
 
-pub fn div(a: u8, by: u8) -> Answer
-    ensures { octet_outcome result ≡ divided a by }
+pub fn div(a: u8, by: u8) -> Result<u8, Refusal>
+    ensures { outcome result ≡ divided a by }
 {
     if by == 0 {
-        return Answer::Refused(Refusal::DivisorZero);
+        return Err(Refusal::DivisorZero);
     }
-    Answer::Octet(quotient(a, by))
-}
-
-fn power(i: usize) -> u8
-    ensures { result ≡ octets.power i }
-{
-    let mut x: u8 = 1;
-    let mut k = 0;
-    while k < i {
-        x = doubling::double(x);
-        k += 1;
-    }
-    x
+    Ok(quotient(a, by))
 }
 
 // alpha to the power i
-pub fn alpha(i: usize) -> Answer
-    ensures { octet_outcome result ≡ raised i }
+pub fn alpha(i: usize) -> Result<u8, Refusal>
+    ensures { outcome result ≡ raised i }
 {
     if i < 256 {
-        Answer::Octet(power(i))
+        Ok(doubling::power(i))
     } else {
-        Answer::Refused(Refusal::OutOfRange)
+        Err(Refusal::OutOfRange)
     }
 }
 

@@ -2,3 +2,4 @@
 #![tactic(auto)]
 
 pub mod beneath;
+pub mod input;

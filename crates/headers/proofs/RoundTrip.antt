@@ -4,20 +4,20 @@ use Rattle.std.proofs.Common.{◌≡◌, ℕ, ◌+◌, ◌-◌, ◌<◌, ◌≤�
 use borrow.Author.Tests.{not-false}
 use lib.Seq.{set_split}
 use Rattle.field.specs.Answer.{given, unless}
-use Rattle.field.proofs.Answers.{given-only}
+use Rattle.field.proofs.Answers.{given-only, outcome-only}
 use Rattle.headers.specs.Bytes.{number}
 use Rattle.headers.specs.Headers.{Stores, room, IdStored, InfoStored, PacketStored, id_at, id_bytes, read_id, info_at, info_bytes, read_info, read_packet}
-use Rattle.field.specs.declared.refusal.Answer as Plain
-use Rattle.field.specs.declared.refusal.Answer.TheVariants.{Done}
+use Rattle.std.specs.Prelude.{Result, Ok}
+use Rattle.field.specs.declared.refusal.Refusal.{Refusal}
 use Rattle.headers.specs.declared.payload_id.PayloadId.{PayloadId}
 use Rattle.headers.specs.declared.transmission.ObjectTransmissionInformation.{ObjectTransmissionInformation}
-use Rattle.field.proofs.Refusals.{passed, done-only}
+use Rattle.field.proofs.Refusals.{passed}
 use Rattle.headers.proofs.Bytes.{Bytes, in_bytes-number, in_bytes-next, number_lt, laid-front}
 use Rattle.headers.proofs.Headers.{id-is, info-is}
 
 -- a write that is done was in its bounds, and its bytes are the front of the store
 module _ (x most n need : ℕ) (bs : List ℕ) {xs ys : List ℕ} (size : length bs ≡ need) where
-  stored : Stores (room x most n need (length xs)) bs xs ys Done → (x ≤ most) × (take need ys ≡ bs)
+  stored : Stores (room x most n need (length xs)) bs xs ys (Ok tt) → (x ≤ most) × (take need ys ≡ bs)
   stored w =
       let a = passed (ltb most x) n (unless (ltb (length xs) need) 8 (given tt)) tt (sym w.answer) in
       let b = passed (ltb (length xs) need) 8 (given tt) tt a.1 in
@@ -25,10 +25,10 @@ module _ (x most n need : ℕ) (bs : List ℕ) {xs ys : List ℕ} (size : length
       (ltb-false most x a.0, ap (λ (k : ℕ). take k ys) (sym size) ∙ laid-front bs w.memory (omega arith))
 
   -- and in its bounds it is done
-  stored-done : {r : Plain.Answer} → x ≤ most → need ≤ length xs → Stores (room x most n need (length xs)) bs xs ys r → (r ≡ Done) × (take need ys ≡ bs)
+  stored-done : {r : Result (Unit {0}) Refusal} → x ≤ most → need ≤ length xs → Stores (room x most n need (length xs)) bs xs ys r → (r ≡ (Ok tt)) × (take need ys ≡ bs)
   stored-done {r} h l w =
-      let e : r ≡ Done = done-only r Done (w.answer ∙ rw (le-ltb most x h, le-ltb (length xs) need l)) in
-      (e, (stored (subst (λ (q : Plain.Answer). Stores (room x most n need (length xs)) bs xs ys q) e w)).1)
+      let e : r ≡ (Ok tt) = outcome-only r (Ok tt) (w.answer ∙ rw (le-ltb most x h, le-ltb (length xs) need l)) in
+      (e, (stored (subst (λ (q : Result (Unit {0}) Refusal). Stores (room x most n need (length xs)) bs xs ys q) e w)).1)
 
 -- Payload ids
 
@@ -38,15 +38,15 @@ id-number i rest s e = id-is (omega arith) (omega arith)
 id-front : (s : List ℕ) → Bytes s → 4 ≤ length s → id_bytes (id_at s) ≡ take 4 s
 id-front s b h = in_bytes-next s 0 1 3 b (omega arith) (in_bytes-number s 1 3 b (omega arith))
 
-pub id-read-back : (i : PayloadId) {xs ys : List ℕ} → i.source_block_number < 256 → IdStored i xs ys Done
+pub id-read-back : (i : PayloadId) {xs ys : List ℕ} → i.source_block_number < 256 → IdStored i xs ys (Ok tt)
     → read_id (take 4 ys) ≡ given i
 id-read-back i s w =
     let u = stored i.encoding_symbol_id 16777215 9 4 (id_bytes i) refl w in
     rw u.1 (ap given (id-number i [] s (omega arith)))
 
-pub id-write-back : (s : List ℕ) (i : PayloadId) {xs ys : List ℕ} {r : Plain.Answer} → Bytes s → read_id s ≡ given i → 4 ≤ length xs
+pub id-write-back : (s : List ℕ) (i : PayloadId) {xs ys : List ℕ} {r : Result (Unit {0}) Refusal} → Bytes s → read_id s ≡ given i → 4 ≤ length xs
     → IdStored i xs ys r
-    → (r ≡ Done) × (take 4 ys ≡ s)
+    → (r ≡ (Ok tt)) × (take 4 ys ≡ s)
 id-write-back s i b e l w =
     let g = passed (not (eqb (length s) 4)) 8 (given (id_at s)) i e in
     let n : length s ≡ 4 = eqb-true (length s) 4 (not-false (eqb (length s) 4) g.0) in
@@ -75,16 +75,16 @@ info-front s b e =
 pub info-read-back : (o : ObjectTransmissionInformation) {xs ys : List ℕ} → o.symbol_size < 65536 → o.num_source_blocks < 256
     → o.num_sub_blocks < 65536
     → o.symbol_alignment < 256
-    → InfoStored o xs ys Done
+    → InfoStored o xs ys (Ok tt)
     → read_info (take 12 ys) ≡ given o
 info-read-back o t z n a w =
     let u = stored o.transfer_length 1099511627775 2 12 (info_bytes o) refl w in
     rw u.1 (ap given (info-number o (omega arith) t z n a))
 
-pub info-write-back : (s : List ℕ) (o : ObjectTransmissionInformation) {xs ys : List ℕ} {r : Plain.Answer} → Bytes s → read_info s ≡ given o
+pub info-write-back : (s : List ℕ) (o : ObjectTransmissionInformation) {xs ys : List ℕ} {r : Result (Unit {0}) Refusal} → Bytes s → read_info s ≡ given o
     → 12 ≤ length xs
     → InfoStored o xs ys r
-    → (r ≡ Done) × (take 12 ys ≡ set s 5 0)
+    → (r ≡ (Ok tt)) × (take 12 ys ≡ set s 5 0)
 info-write-back s o b e l w =
     let g = passed (not (eqb (length s) 12)) 8 (given (info_at s)) o e in
     let n : length s ≡ 12 = eqb-true (length s) 12 (not-false (eqb (length s) 12) g.0) in
@@ -96,7 +96,7 @@ info-write-back s o b e l w =
 -- Packets
 
 pub packet-read-back : (i : PayloadId) (p : List ℕ) {xs ys : List ℕ} → i.source_block_number < 256
-    → PacketStored i p xs ys Done
+    → PacketStored i p xs ys (Ok tt)
     → (read_packet (take (4 + length p) ys) ≡ given (i, 4, length p)) × (drop 4 (take (4 + length p) ys) ≡ p)
 packet-read-back i p s w =
     let n : length (id_bytes i ++ p) ≡ 4 + length p = length-append (id_bytes i) p in
@@ -106,10 +106,10 @@ packet-read-back i p s w =
       rw u.1,
     )
 
-pub packet-write-back : (s : List ℕ) (i : PayloadId) (from len : ℕ) {xs ys : List ℕ} {r : Plain.Answer} → Bytes s → read_packet s ≡ given (i, from, len)
+pub packet-write-back : (s : List ℕ) (i : PayloadId) (from len : ℕ) {xs ys : List ℕ} {r : Result (Unit {0}) Refusal} → Bytes s → read_packet s ≡ given (i, from, len)
     → length s ≤ length xs
     → PacketStored i (take len (drop from s)) xs ys r
-    → (r ≡ Done) × (take (length s) ys ≡ s)
+    → (r ≡ (Ok tt)) × (take (length s) ys ≡ s)
 packet-write-back s i from len {xs} {ys} b e l w =
     let g = passed (ltb (length s) 4) 8 (given (id_at s, 4, length s - 4)) (i, from, len) e in
     let h : 4 ≤ length s = ltb-false (length s) 4 g.0 in

@@ -1,24 +1,20 @@
 -- Payload ids, transmission information and packets: RFC 6330, 3.2, 3.3.2, 3.3.3 and 4.4.2; document 01, 'Headers'; document 02, E3.
 -- Assumes nothing.
-use Rattle.std.specs.Prelude.{◌≡◌, ℕ, ◌+◌, ◌-◌, ◌/◌, ◌%◌, ◌≤◌, Bool, not, List, ◌++◌, length, ◌==◌, nat_le, nat_lt}
-use Rattle.field.specs.Answer.{Outcome, Left, done, given, refused, code_of, unless}
+use Rattle.std.specs.Prelude.{◌≡◌, ℕ, ◌+◌, ◌-◌, ◌/◌, ◌%◌, ◌≤◌, Bool, not, List, Result, ◌++◌, length, ◌==◌, nat_le, nat_lt}
+use Rattle.field.specs.Answer.{Outcome, Left, given, unless, outcome, outcome_of}
 use Rattle.field.specs.Choice.{both}
 use Rattle.headers.specs.Bytes.{Laid, in_bytes, number}
 use Rattle.headers.specs.Quotient.{ceil}
 use Rattle.field.specs.declared.refusal.Refusal.{Refusal}
-use Rattle.field.specs.declared.refusal.Refusal.TheVariants as Why
-use Rattle.field.specs.declared.refusal.Answer as Plain
 use Rattle.headers.specs.declared.payload_id.PayloadId.{PayloadId}
-use Rattle.headers.specs.declared.payload_id.Answer as Ids
 use Rattle.headers.specs.declared.transmission.ObjectTransmissionInformation.{ObjectTransmissionInformation}
-use Rattle.headers.specs.declared.transmission.Answer as Infos
-use Rattle.headers.specs.declared.packet.Head as Heads
-use Rattle.headers.specs.declared.packet.Answer as Packets
+use Rattle.headers.specs.declared.packet.Cursor.{Cursor}
+use Rattle.headers.specs.declared.packet.Packet.{Packet}
 
 -- a writer answers by the room that it was lent, and leaves its bytes at the front of the store, or the store as it was
-pub record Stores (room : Outcome (Unit {0})) (bs xs ys : List ℕ) (r : Plain.Answer) : Type 0 where
-  pub answer : done r ≡ room
-  pub memory : Left (done r) xs ys (Laid bs xs ys 0)
+pub record Stores (room : Outcome (Unit {0})) (bs xs ys : List ℕ) (r : Result (Unit {0}) Refusal) : Type 0 where
+  pub answer : outcome r ≡ room
+  pub memory : Left (outcome r) xs ys (Laid bs xs ys 0)
 
 -- may it be done? A number of at most `most`, else n; a store of at least `need` bytes, else 8
 abbrev pub room : ℕ → ℕ → ℕ → ℕ → ℕ → Outcome (Unit {0})
@@ -31,10 +27,6 @@ id_bytes i = in_bytes 1 i.source_block_number ++ in_bytes 3 i.encoding_symbol_id
 abbrev pub id_at : List ℕ → PayloadId
 id_at s = record { source_block_number = number s 0 1; encoding_symbol_id = number s 1 3 }
 
-abbrev pub id_outcome : Ids.Answer → Outcome PayloadId
-id_outcome (Ids.TheVariants.Id i) = given i
-id_outcome (Ids.TheVariants.Refused why) = refused (code_of why)
-
 abbrev pub read_id : List ℕ → Outcome PayloadId
 read_id s = unless (not (length s == 4)) 8 (given (id_at s))
 
@@ -42,7 +34,7 @@ abbrev pub room_for_id : PayloadId → ℕ → Outcome (Unit {0})
 room_for_id i = room i.encoding_symbol_id 16777215 9 4
 
 -- xs and ys: the store before and after
-abbrev pub IdStored : PayloadId → List ℕ → List ℕ → Plain.Answer → Type 0
+abbrev pub IdStored : PayloadId → List ℕ → List ℕ → Result (Unit {0}) Refusal → Type 0
 IdStored i xs ys = Stores (room_for_id i (length xs)) (id_bytes i) xs ys
 
 -- F 5 bytes, reserved 1, T 2, Z 1, N 2, Al 1
@@ -62,17 +54,13 @@ info_at s =
       symbol_alignment = number s 11 1;
     }
 
-abbrev pub info_outcome : Infos.Answer → Outcome ObjectTransmissionInformation
-info_outcome (Infos.TheVariants.Information o) = given o
-info_outcome (Infos.TheVariants.Refused why) = refused (code_of why)
-
 abbrev pub read_info : List ℕ → Outcome ObjectTransmissionInformation
 read_info s = unless (not (length s == 12)) 8 (given (info_at s))
 
 abbrev pub room_for_info : ObjectTransmissionInformation → ℕ → Outcome (Unit {0})
 room_for_info o = room o.transfer_length 1099511627775 2 12
 
-abbrev pub InfoStored : ObjectTransmissionInformation → List ℕ → List ℕ → Plain.Answer → Type 0
+abbrev pub InfoStored : ObjectTransmissionInformation → List ℕ → List ℕ → Result (Unit {0}) Refusal → Type 0
 InfoStored o xs ys = Stores (room_for_info o (length xs)) (info_bytes o) xs ys
 
 -- too many symbols in a block: ceil(ceil(F/T)/Z) exceeds the largest K'
@@ -110,25 +98,19 @@ pub record InfoObeys (o : ObjectTransmissionInformation) : Type 0 where
 abbrev pub headed : List ℕ → Outcome (PayloadId × ℕ)
 headed s = unless (nat_lt (length s) 4) 8 (given (id_at s, 4))
 
-abbrev pub head_outcome : Heads.Head → Outcome (PayloadId × ℕ)
-head_outcome (Heads.TheVariants.Id i c) = given (i, c.at)
-head_outcome (Heads.TheVariants.Refused why) = refused (code_of why)
-
-abbrev pub refusal_of : Heads.Head → Refusal
-refusal_of (Heads.TheVariants.Id i c) = Why.WrongLength
-refusal_of (Heads.TheVariants.Refused why) = why
+abbrev pub head_outcome : Result (PayloadId × Cursor) Refusal → Outcome (PayloadId × ℕ)
+head_outcome = outcome_of (λ x. (x.0, x.1.at))
 
 -- the id, and where the rest begins and how long it is
 abbrev pub read_packet : List ℕ → Outcome (PayloadId × ℕ × ℕ)
 read_packet s = unless (nat_lt (length s) 4) 8 (given (id_at s, 4, length s - 4))
 
-abbrev pub packet_outcome : Packets.Answer → Outcome (PayloadId × ℕ × ℕ)
-packet_outcome (Packets.TheVariants.Packet i from len) = given (i, from, len)
-packet_outcome (Packets.TheVariants.Refused why) = refused (code_of why)
+abbrev pub packet_outcome : Result Packet Refusal → Outcome (PayloadId × ℕ × ℕ)
+packet_outcome = outcome_of (λ p. (p.payload_id, p.from, p.len))
 
 -- an id and n bytes more
 abbrev pub room_for_packet : PayloadId → ℕ → ℕ → Outcome (Unit {0})
 room_for_packet i n = room i.encoding_symbol_id 16777215 9 (4 + n)
 
-abbrev pub PacketStored : PayloadId → List ℕ → List ℕ → List ℕ → Plain.Answer → Type 0
+abbrev pub PacketStored : PayloadId → List ℕ → List ℕ → List ℕ → Result (Unit {0}) Refusal → Type 0
 PacketStored i bs xs ys = Stores (room_for_packet i (length bs) (length xs)) (id_bytes i ++ bs) xs ys

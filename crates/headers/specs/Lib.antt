@@ -1,6 +1,5 @@
 -- What the contracts of `headers` cite. A crate above names these as `Rattle.headers.specs.Row`.
 pub mod Told
-pub mod Number
 pub mod Quotient
 pub mod Bytes
 pub mod Headers

@@ -1,18 +1,17 @@
 -- RFC 6330, 4.4.1.2: Partition[I, J].
 -- Assumes nothing.
-use Rattle.std.specs.Prelude.{◌≡◌, ℕ, ◌+◌, ◌-◌, ◌*◌, ◌/◌, ◌≤◌, List, [], ◌∷◌, ◌==◌}
-use Rattle.field.specs.Answer.{Outcome, given, refused, code_of, unless}
+use Rattle.std.specs.Prelude.{◌≡◌, ℕ, ◌+◌, ◌-◌, ◌*◌, ◌/◌, ◌≤◌, List, Result, [], ◌∷◌, ◌==◌}
+use Rattle.field.specs.Answer.{Outcome, given, unless, outcome_of}
 use Rattle.headers.specs.Quotient.{ceil}
-use Rattle.headers.specs.declared.partition.Answer.{Answer}
-use Rattle.headers.specs.declared.partition.Answer.TheVariants as Answers
+use Rattle.field.specs.declared.refusal.Refusal.{Refusal}
+use Rattle.headers.specs.declared.partition.Parts.{Parts}
 
 -- IL, IS, JL, JS: i in j parts, of which JL have the size IL and JS the size IS
 abbrev pub parts : ℕ → ℕ → List ℕ
 parts i j = ceil i j ∷ i / j ∷ (i - i / j * j) ∷ (j - (i - i / j * j)) ∷ []
 
-abbrev pub partition_outcome : Answer → Outcome (List ℕ)
-partition_outcome (Answers.Parts il is jl js) = given (il ∷ is ∷ jl ∷ js ∷ [])
-partition_outcome (Answers.Refused why) = refused (code_of why)
+abbrev pub partition_outcome : Result Parts Refusal → Outcome (List ℕ)
+partition_outcome = outcome_of (λ p. p.il ∷ p.is ∷ p.jl ∷ p.js ∷ [])
 
 abbrev pub partitioned : ℕ → ℕ → Outcome (List ℕ)
 partitioned i j = unless (j == 0) 2 (given (parts i j))

@@ -1,7 +1,7 @@
 -- The parameter row (RFC 6330 section 5.6), the numbers that follow from it (5.3.3.3), and its rules (document 01, 'Parameter row'; document 02, E2 and E7).
 -- Of a record K', J, S, H and W are given; L, P, B and P1 are said here of these five, and stand in it too.
 -- Assumes nothing.
-use Rattle.std.specs.Prelude.{◌≡◌, ℕ, suc, ◌+◌, ◌-◌, ◌%◌, ◌<◌, ◌≤◌, Bool, true, not, List, [], ◌∷◌, ◌==◌, nat_le, nat_lt}
+use Rattle.std.specs.Prelude.{◌≡◌, ℕ, suc, ◌+◌, ◌-◌, ◌%◌, ◌<◌, ◌≤◌, Bool, true, not, Result, Ok, Err, List, [], ◌∷◌, ◌==◌, nat_le, nat_lt}
 use Rattle.field.specs.Choice.{both}
 use Rattle.field.specs.Answer.{Outcome, given, refused, coded, code_of, place_of, unless, before}
 use Rattle.field.specs.declared.refusal.Part.{Part}
@@ -10,12 +10,7 @@ use Rattle.field.specs.declared.refusal.Refusal.TheVariants as Why
 use Rattle.headers.specs.Prime.{Prime, prime, first_prime}
 use Rattle.headers.specs.Quotient.{ceil}
 use Rattle.headers.specs.declared.row.Row.{Row}
-use Rattle.headers.specs.declared.row.Checked.{Checked}
-use Rattle.headers.specs.declared.beneath.row.Derivation.{Derivation}
-use Rattle.headers.specs.declared.beneath.row.Derivation.TheVariants.{Numbers, Broken}
-use Rattle.headers.specs.declared.beneath.row.Ranging.{Ranging}
-use Rattle.headers.specs.declared.beneath.row.Ranging.TheVariants.{Within, Outside}
-use Rattle.headers.specs.declared.row.Checked.TheVariants.{Value, Refused}
+use Rattle.headers.specs.declared.beneath.row.Numbers.{Numbers}
 
 -- L = K' + S + H
 abbrev pub l_of : Row → ℕ
@@ -134,19 +129,15 @@ abbrev pub checked : Row → Outcome Row
 checked r = before (verified r) (given r)
 
 -- what follows from five numbers: with them it is a record that keeps the rules; or the first rule that they break
-abbrev pub Derives : ℕ → ℕ → ℕ → ℕ → ℕ → Derivation → Type 0
-Derives kp j s h w (Numbers l p b p1) = Obeys (record { kp = kp; j = j; s = s; h = h; w = w; l = l; p = p; b = b; p1 = p1 })
-Derives kp j s h w (Broken part) = Refuses (row_of kp j s h w) part
+abbrev pub Derives : ℕ → ℕ → ℕ → ℕ → ℕ → Result Numbers Part → Type 0
+Derives kp j s h w (Ok n) = Obeys (record { kp = kp; j = j; s = s; h = h; w = w; l = n.l; p = n.p; b = n.b; p1 = n.p1 })
+Derives kp j s h w (Err part) = Refuses (row_of kp j s h w) part
 
 -- the same of the first four parts
-abbrev pub Ranged : ℕ → ℕ → ℕ → ℕ → ℕ → Ranging → Type 0
-Ranged kp j s h w Within = Ranges kp j s h w
-Ranged kp j s h w (Outside part) = Refuses (row_of kp j s h w) part
+abbrev pub Ranged : ℕ → ℕ → ℕ → ℕ → ℕ → Result (Unit {0}) Part → Type 0
+Ranged kp j s h w (Ok _) = Ranges kp j s h w
+Ranged kp j s h w (Err part) = Refuses (row_of kp j s h w) part
 
 -- what the check answers
 abbrev pub row_checked : ℕ → ℕ → ℕ → ℕ → ℕ → Outcome Row
 row_checked kp j s h w = checked (row_of kp j s h w)
-
-abbrev pub row_outcome : Checked → Outcome Row
-row_outcome (Value r) = given r
-row_outcome (Refused why) = refused (code_of why)

@@ -1,12 +1,12 @@
 -- The internal symbol id of an encoding symbol id (RFC 6330 section 5.3.1; document 01, 'Tuple and indices').
 -- Assumes nothing.
-use Rattle.std.specs.Prelude.{ℕ, ◌+◌, ◌-◌, not, nat_le, nat_lt}
+use Rattle.std.specs.Prelude.{ℕ, Result, ◌+◌, ◌-◌, not, nat_le, nat_lt}
 use Rattle.field.specs.Choice.{pick}
-use Rattle.field.specs.Answer.{Outcome, given, refused, code_of, unless, before}
+use Rattle.field.specs.Answer.{Outcome, given, unless, before, outcome_of}
 use Rattle.headers.specs.Row.{verified, between}
 use Rattle.headers.specs.declared.row.Row.{Row}
-use Rattle.headers.specs.declared.ids.Shifted.{Shifted}
-use Rattle.headers.specs.declared.ids.Shifted.TheVariants.{Value, Refused}
+use Rattle.field.specs.declared.refusal.Refusal.{Refusal}
+use Rattle.headers.specs.declared.ids.Isi.{Isi}
 
 -- below K the same; from K on, K' - K more
 abbrev pub shifted : ℕ → ℕ → ℕ → ℕ
@@ -17,6 +17,5 @@ abbrev pub isi_answer : Row → ℕ → ℕ → Outcome ℕ
 isi_answer r k esi =
     before (verified r) (unless (nat_le 16777216 esi) 9 (unless (not (between 1 k r.kp)) 9 (given (shifted esi k r.kp))))
 
-abbrev pub isi_outcome : Shifted → Outcome ℕ
-isi_outcome (Value i) = given i.0
-isi_outcome (Refused why) = refused (code_of why)
+abbrev pub isi_outcome : Result Isi Refusal → Outcome ℕ
+isi_outcome = outcome_of (λ i. i.0)

@@ -2,14 +2,12 @@
 -- Assumes nothing.
 use Rattle.std.specs.Prelude.{◌≡◌, ℕ, ◌+◌, ◌-◌, ◌*◌, ◌%◌, ◌<◌, ◌≤◌, not, List, length, ◌==◌, nat_lt}
 use Rattle.field.specs.Choice.{pick}
-use Rattle.field.specs.Answer.{Outcome, given, refused, code_of, unless, before}
+use Rattle.field.specs.Answer.{Outcome, given, unless, before}
 use Rattle.headers.specs.Rand.{random}
 use Rattle.headers.specs.Degree.{degree}
 use Rattle.headers.specs.Row.{verified, p1_of}
 use Rattle.headers.specs.declared.row.Row.{Row}
 use Rattle.headers.specs.declared.tuple.Tuple.{Tuple}
-use Rattle.headers.specs.declared.tuple.Generated.{Generated}
-use Rattle.headers.specs.declared.tuple.Generated.TheVariants.{Value, Refused}
 
 -- A: 53591 + 997 J, and 1 more if that is even
 abbrev pub factor : ℕ → ℕ
@@ -59,7 +57,3 @@ pub record Ready (v : List ℕ) (j w p1 : ℕ) : Type 0 where
 -- what the generator answers
 abbrev pub tuple_answer : Row → List ℕ → ℕ → Outcome Tuple
 tuple_answer r v x = before (verified r) (unless (not (length v == 1024)) 5 (given (tuple_of v r.j r.w (p1_of r) x)))
-
-abbrev pub tuple_outcome : Generated → Outcome Tuple
-tuple_outcome (Value t) = given t
-tuple_outcome (Refused why) = refused (code_of why)

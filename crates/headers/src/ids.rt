@@ -4,40 +4,31 @@ ghost use Rattle.headers.specs.Shift.{isi_answer, isi_outcome};
 
 use crate::beneath::row;
 use crate::row::Row;
-use field::refusal::{Answer, Refusal};
+use field::refusal::Refusal;
 
 pub mod beneath;
 
-#[derive(Clone, Copy)]
+#[derive(Clone, Copy, Debug, PartialEq, Eq)]
 pub struct Esi(pub u32);
 
-#[derive(Clone, Copy)]
+#[derive(Clone, Copy, Debug, PartialEq, Eq)]
 pub struct Isi(u32);
 
-#[derive(Clone, Copy)]
-pub enum Shifted {
-    Value(Isi),
-    Refused(Refusal),
-}
-
 // The ISI of what was sent of a block of k source symbols.
-pub fn isi_of(r: Row, k: u32, e: Esi) -> Shifted
+pub fn isi_of(r: Row, k: u32, e: Esi) -> Result<Isi, Refusal>
     ensures { isi_outcome result ≡ isi_answer r k e.0 }
 {
-    let fine = row::verify(r);
-    if let Answer::Refused(why) = fine {
-        return Shifted::Refused(why);
-    }
+    row::verify(r)?;
     if e.0 >= 16777216 {
-        return Shifted::Refused(Refusal::BadCount);
+        return Err(Refusal::BadCount);
     }
     if k < 1 {
-        return Shifted::Refused(Refusal::BadCount);
+        return Err(Refusal::BadCount);
     }
     if k > r.kp {
-        return Shifted::Refused(Refusal::BadCount);
+        return Err(Refusal::BadCount);
     }
-    Shifted::Value(beneath::isi_of(r.kp, k, e))
+    Ok(beneath::isi_of(r.kp, k, e))
 }
 
 pub fn number(x: Isi) -> u32

@@ -4,7 +4,6 @@
 pub mod beneath;
 pub mod deg;
 pub mod ids;
-pub mod number;
 pub mod packet;
 pub mod partition;
 pub mod payload_id;

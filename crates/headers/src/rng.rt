@@ -1,20 +1,19 @@
 // Rand, written from RFC 6330 section 5.3.5.1 and not from the crate. The tables are lent: V0, V1, V2, V3 in order.
 ghost use Rattle.std.specs.Prelude.{◌≡◌};
-ghost use Rattle.headers.specs.Number.{number_outcome};
+ghost use Rattle.field.specs.Answer.{outcome};
 ghost use Rattle.headers.specs.Rand.{rand_answer};
 
 use crate::beneath;
-use crate::number::Number;
 use field::refusal::Refusal;
 
-pub fn rand(tables: &[u32], y: u32, i: u8, m: u32) -> Number
-    ensures { number_outcome result ≡ rand_answer tables.now y i m }
+pub fn rand(tables: &[u32], y: u32, i: u8, m: u32) -> Result<u32, Refusal>
+    ensures { outcome result ≡ rand_answer tables.now y i m }
 {
     if tables.len() != 1024 {
-        return Number::Refused(Refusal::BadTables);
+        return Err(Refusal::BadTables);
     }
     if m == 0 {
-        return Number::Refused(Refusal::OutOfRange);
+        return Err(Refusal::OutOfRange);
     }
-    Number::Value(beneath::rng::rand(tables, y, i, m))
+    Ok(beneath::rng::rand(tables, y, i, m))
 }

@@ -1,13 +1,14 @@
 // The parameter row of a block (RFC 6330 section 5.6), and its check.
 ghost use Rattle.std.specs.Prelude.{◌≡◌};
-ghost use Rattle.headers.specs.Row.{row_checked, row_outcome};
+ghost use Rattle.field.specs.Answer.{outcome};
+ghost use Rattle.headers.specs.Row.{row_checked};
 
 use crate::beneath::row;
-use crate::beneath::row::Derivation;
+use crate::beneath::row::Numbers;
 use field::refusal::Refusal;
 
 // K', J, S, H and W, which the caller has, and L, P, B and P1, which follow from them.
-#[derive(Clone, Copy)]
+#[derive(Clone, Copy, Debug, PartialEq, Eq)]
 pub struct Row {
     pub kp: u32,
     pub j: u32,
@@ -20,28 +21,20 @@ pub struct Row {
     pub p1: u32,
 }
 
-#[derive(Clone, Copy)]
-pub enum Checked {
-    Value(Row),
-    Refused(Refusal),
-}
-
 // The one function that makes a record.
-pub fn check(kp: u32, j: u32, s: u32, h: u32, w: u32) -> Checked
-    ensures { row_outcome result ≡ row_checked kp j s h w }
+pub fn check(kp: u32, j: u32, s: u32, h: u32, w: u32) -> Result<Row, Refusal>
+    ensures { outcome result ≡ row_checked kp j s h w }
 {
-    match row::derive(kp, j, s, h, w) {
-        Derivation::Numbers { l, p, b, p1 } => Checked::Value(Row {
-            kp,
-            j,
-            s,
-            h,
-            w,
-            l,
-            p,
-            b,
-            p1,
-        }),
-        Derivation::Broken(part) => Checked::Refused(Refusal::BadRow(part)),
-    }
+    let Numbers { l, p, b, p1 } = row::derive(kp, j, s, h, w)?;
+    Ok(Row {
+        kp,
+        j,
+        s,
+        h,
+        w,
+        l,
+        p,
+        b,
+        p1,
+    })
 }

@@ -1,16 +1,15 @@
 // Ported from base.rs of raptorq 2.0.1 (Apache-2.0) and changed.
 // The object transmission information: twelve bytes, and the rules that it has to keep (RFC 6330, 3.3.2 and 3.3.3).
 ghost use Rattle.std.specs.Prelude.{◌≡◌, ◌≤◌, length};
-ghost use Rattle.field.specs.Answer.{done};
+ghost use Rattle.field.specs.Answer.{outcome};
 ghost use Rattle.headers.specs.Bytes.{Laid};
-ghost use Rattle.headers.specs.Headers.{InfoStored, info_checked, info_bytes, info_outcome, read_info};
+ghost use Rattle.headers.specs.Headers.{InfoStored, info_checked, info_bytes, read_info};
 
 use crate::beneath;
 use crate::beneath::{big_endian, util};
-use field::refusal;
 use field::refusal::Refusal;
 
-#[derive(Clone, Copy)]
+#[derive(Clone, Copy, Debug, PartialEq, Eq)]
 pub struct ObjectTransmissionInformation {
     pub transfer_length: u64,
     pub symbol_size: u16,
@@ -19,33 +18,27 @@ pub struct ObjectTransmissionInformation {
     pub symbol_alignment: u8,
 }
 
-#[derive(Clone, Copy)]
-pub enum Answer {
-    Information(ObjectTransmissionInformation),
-    Refused(Refusal),
-}
-
 // Applies no rule: the sender's numbers as they are.
-pub fn deserialize(bytes: &[u8]) -> Answer
-    ensures { info_outcome result ≡ read_info bytes.now }
+pub fn deserialize(bytes: &[u8]) -> Result<ObjectTransmissionInformation, Refusal>
+    ensures { outcome result ≡ read_info bytes.now }
 {
     if bytes.len() != 12 {
-        return Answer::Refused(Refusal::WrongLength);
+        return Err(Refusal::WrongLength);
     }
-    Answer::Information(beneath::transmission::get(bytes))
+    Ok(beneath::transmission::get(bytes))
 }
 
-pub fn serialize(info: ObjectTransmissionInformation, store: &mut [u8]) -> refusal::Answer
+pub fn serialize(info: ObjectTransmissionInformation, store: &mut [u8]) -> Result<(), Refusal>
     ensures { InfoStored info store.old store.new result }
 {
     if info.transfer_length >= 1099511627776 {
-        return refusal::Answer::Refused(Refusal::OutOfRange);
+        return Err(Refusal::OutOfRange);
     }
     if store.len() < 12 {
-        return refusal::Answer::Refused(Refusal::WrongLength);
+        return Err(Refusal::WrongLength);
     }
     put(store, info);
-    refusal::Answer::Done
+    Ok(())
 }
 
 fn put(store: &mut [u8], info: ObjectTransmissionInformation)
@@ -61,34 +54,34 @@ fn put(store: &mut [u8], info: ObjectTransmissionInformation)
 }
 
 // The crate's `new` lacks the four rules of document 02, E3: it takes T, Z or N of 0, and N above T/Al (docs/DIFFERENCES.md, D36 to D39).
-pub fn check(info: ObjectTransmissionInformation) -> refusal::Answer
-    ensures { done result ≡ info_checked info }
+pub fn check(info: ObjectTransmissionInformation) -> Result<(), Refusal>
+    ensures { outcome result ≡ info_checked info }
 {
     if info.transfer_length > 942574504275 {
-        return refusal::Answer::Refused(Refusal::BadTransmission);
+        return Err(Refusal::BadTransmission);
     }
     if info.symbol_alignment == 0 {
-        return refusal::Answer::Refused(Refusal::BadTransmission);
+        return Err(Refusal::BadTransmission);
     }
     if info.symbol_size % info.symbol_alignment as u16 != 0 {
-        return refusal::Answer::Refused(Refusal::BadTransmission);
+        return Err(Refusal::BadTransmission);
     }
     if info.symbol_size == 0 {
-        return refusal::Answer::Refused(Refusal::BadTransmission);
+        return Err(Refusal::BadTransmission);
     }
     if info.num_source_blocks == 0 {
-        return refusal::Answer::Refused(Refusal::BadTransmission);
+        return Err(Refusal::BadTransmission);
     }
     if info.num_sub_blocks == 0 {
-        return refusal::Answer::Refused(Refusal::BadTransmission);
+        return Err(Refusal::BadTransmission);
     }
     if info.num_sub_blocks > info.symbol_size / info.symbol_alignment as u16 {
-        return refusal::Answer::Refused(Refusal::BadTransmission);
+        return Err(Refusal::BadTransmission);
     }
     // No block of more symbols than the largest K' (RFC 6330, 4.4.1.2).
     let symbols = util::int_div_ceil(info.transfer_length, info.symbol_size as u64);
     if util::int_div_ceil(symbols, info.num_source_blocks as u64) > 56403 {
-        return refusal::Answer::Refused(Refusal::BadTransmission);
+        return Err(Refusal::BadTransmission);
     }
-    refusal::Answer::Done
+    Ok(())
 }

@@ -1,277 +1,162 @@
 // Answers the questions on standard input, a line each, as the published crate answered them (`stdout`): both files are
 // written by differential/vectors. The first 1,024 lines are the random tables; then a question is a letter and seven
-// numbers, those that it does not need 0.
+// numbers, those that it does not need 0. What cannot be written is left out.
 #![tactic(auto)]
 
 ghost use Rattle.std.specs.Prelude.{◌<◌, ◌≤◌, length};
 
-use field::refusal;
-use field::refusal::{Refusal, number};
-use headers::ids::{Esi, Shifted};
-use headers::number::Number;
-use headers::row::Checked;
+use field::refusal::Refusal;
+use header_text::input;
+use headers::ids::{Esi, Isi};
+use headers::row::Row;
 use headers::transmission::ObjectTransmissionInformation;
-use headers::tuple::Generated;
+use headers::tuple::Tuple;
 use headers::{deg, ids, partition, rng, row, transmission, tuple};
-use std::io::Read;
-
-// A number of the text, and the place after it and the byte that ends it.
-#[derive(Clone, Copy)]
-struct Part {
-    value: u64,
-    at: usize,
-}
-
-fn digit(b: u8) -> u64
-    ensures { result < 10 }
-{
-    if b < 48 {
-        return 0;
-    }
-    if 57 < b {
-        return 0;
-    }
-    (b - 48) as u64
-}
-
-fn is_digit(b: u8) -> bool {
-    if b < 48 {
-        return false;
-    }
-    b < 58
-}
-
-fn parse(text: &[u8], from: usize) -> Part
-    requires { from ≤ length text.now }
-    ensures { (from ≤ result.at) × (result.at ≤ length text.now) }
-{
-    let mut value: u64 = 0;
-    let mut at = from;
-    while at < text.len() {
-        let b = text[at];
-        at += 1;
-        if !is_digit(b) {
-            break;
-        }
-        value = value % 1000000000000000000 * 10 + digit(b);
-    }
-    Part { value, at }
-}
-
-fn word(x: u64) -> u32 {
-    (x % 4294967296) as u32
-}
-
-// What cannot be written is left out.
-fn print(rt: &impl Print, bytes: &[u8]) {
-    let _ = rt.write_all(bytes);
-}
-
-fn say(rt: &impl Print, x: u32) {
-    let _ = rt.print(x);
-    print(rt, b" ");
-}
-
-fn refuse(rt: &impl Print, why: Refusal) {
-    print(rt, b"refused ");
-    say(rt, number(why));
-}
-
-fn say_number(rt: &impl Print, n: Number) {
-    match n {
-        Number::Value(x) => say(rt, x),
-        Number::Refused(why) => refuse(rt, why),
-    }
-}
-
-fn say_parts(rt: &impl Print, p: partition::Answer) {
-    match p {
-        partition::Answer::Parts { il, is, jl, js } => {
-            say(rt, il);
-            say(rt, is);
-            say(rt, jl);
-            say(rt, js);
-        }
-        partition::Answer::Refused(why) => refuse(rt, why),
-    }
-}
-
-fn say_sizes(rt: &impl Print, c: Checked) {
-    match c {
-        Checked::Value(r) => {
-            say(rt, r.l);
-            say(rt, r.p);
-            say(rt, r.b);
-            say(rt, r.p1);
-        }
-        Checked::Refused(why) => refuse(rt, why),
-    }
-}
-
-fn say_isi(rt: &impl Print, s: Shifted) {
-    match s {
-        Shifted::Value(x) => say(rt, ids::number(x)),
-        Shifted::Refused(why) => refuse(rt, why),
-    }
-}
-
-fn say_tuple(rt: &impl Print, g: Generated) {
-    match g {
-        Generated::Value(t) => {
-            say(rt, t.d);
-            say(rt, t.a);
-            say(rt, t.b);
-            say(rt, t.d1);
-            say(rt, t.a1);
-            say(rt, t.b1);
-        }
-        Generated::Refused(why) => refuse(rt, why),
-    }
-}
-
-fn say_verdict(rt: &impl Print, v: refusal::Answer) {
-    match v {
-        refusal::Answer::Done => print(rt, b"accepted "),
-        refusal::Answer::Refused(why) => refuse(rt, why),
-    }
-}
 
 #[derive(Clone, Copy)]
 struct Question {
     kind: u8,
-    n0: u64,
-    n1: u64,
-    n2: u64,
-    n3: u64,
-    n4: u64,
-    n5: u64,
-    n6: u64,
+    n: [u64; 7],
 }
 
-fn row_of(q: Question) -> Checked {
-    row::check(word(q.n0), word(q.n1), word(q.n2), word(q.n3), word(q.n4))
-}
-
-fn answer_isi(rt: &impl Print, q: Question) {
-    match row_of(q) {
-        Checked::Value(r) => say_isi(rt, ids::isi_of(r, word(q.n5), Esi(word(q.n6)))),
-        Checked::Refused(why) => refuse(rt, why),
+impl Question {
+    fn word(&self, i: usize) -> u32
+        requires { i < 7 }
+    {
+        low_word(self.n[i])
     }
-}
 
-fn answer_tuple(rt: &impl Print, q: Question, tables: &[u32]) {
-    match row_of(q) {
-        Checked::Value(r) => {
-            let x = ids::beneath::row_number(word(q.n5));
-            say_tuple(rt, tuple::intermediate_tuple(r, tables, x));
+    fn row(&self) -> Result<Row, Refusal> {
+        row::check(
+            self.word(0),
+            self.word(1),
+            self.word(2),
+            self.word(3),
+            self.word(4),
+        )
+    }
+
+    fn isi(&self) -> Result<Isi, Refusal> {
+        ids::isi_of(self.row()?, self.word(5), Esi(self.word(6)))
+    }
+
+    fn tuple(&self, tables: &[u32]) -> Result<Tuple, Refusal> {
+        let x = ids::beneath::row_number(self.word(5));
+        tuple::intermediate_tuple(self.row()?, tables, x)
+    }
+
+    fn information(&self) -> ObjectTransmissionInformation {
+        ObjectTransmissionInformation {
+            transfer_length: self.n[0],
+            symbol_size: (self.n[1] % 65536) as u16,
+            num_source_blocks: (self.n[2] % 256) as u8,
+            num_sub_blocks: (self.n[3] % 65536) as u16,
+            symbol_alignment: (self.n[4] % 256) as u8,
         }
-        Checked::Refused(why) => refuse(rt, why),
     }
 }
 
-fn information(q: Question) -> ObjectTransmissionInformation {
-    ObjectTransmissionInformation {
-        transfer_length: q.n0,
-        symbol_size: (q.n1 % 65536) as u16,
-        num_source_blocks: (q.n2 % 256) as u8,
-        num_sub_blocks: (q.n3 % 65536) as u16,
-        symbol_alignment: (q.n4 % 256) as u8,
+fn low_word(x: u64) -> u32 {
+    (x % 4294967296) as u32
+}
+
+// The number that the text begins with, of which the first digits are lost past nineteen, and the text after the byte that ends it.
+fn number(text: &[u8]) -> (u64, &[u8])
+    ensures { length result.1.now ≤ length text.now }
+{
+    let end = text
+        .iter()
+        .position(|b| !b.is_ascii_digit())
+        .unwrap_or(text.len());
+    let (digits, rest) = text.split_at(end);
+    let value = digits.iter().fold(0u64, |value, b| {
+        value % 1000000000000000000 * 10 + u64::from(b.wrapping_sub(b'0'))
+    });
+    (value, rest.get(1..).unwrap_or(&[]))
+}
+
+fn refuse(rt: &impl Print, why: Refusal) {
+    let _ = print!(rt; "refused {} ", why.number());
+}
+
+fn say<const N: usize>(rt: &impl Print, numbers: Result<[u32; N], Refusal>) {
+    match numbers {
+        Ok(numbers) => {
+            for x in numbers {
+                let _ = print!(rt; "{x} ");
+            }
+        }
+        Err(why) => refuse(rt, why),
+    }
+}
+
+fn say_verdict(rt: &impl Print, verdict: Result<(), Refusal>) {
+    match verdict {
+        Ok(()) => {
+            let _ = print!(rt; "accepted ");
+        }
+        Err(why) => refuse(rt, why),
     }
 }
 
 fn answer(rt: &impl Print, q: Question, tables: &[u32]) {
-    let kind = q.kind;
-    match kind {
-        b'd' => say_number(rt, deg::deg(word(q.n0), word(q.n1))),
-        b'p' => say_parts(rt, partition::partition(word(q.n0), word(q.n1))),
-        b'r' => say_number(
+    match q.kind {
+        b'd' => say(rt, deg::deg(q.word(0), q.word(1)).map(|d| [d])),
+        b'p' => say(
             rt,
-            rng::rand(tables, word(q.n0), (q.n1 % 256) as u8, word(q.n2)),
+            partition::partition(q.word(0), q.word(1)).map(|p| [p.il, p.is, p.jl, p.js]),
         ),
-        b'w' => say_sizes(rt, row_of(q)),
-        b'i' => answer_isi(rt, q),
-        b't' => answer_tuple(rt, q, tables),
-        b'c' => say_verdict(rt, transmission::check(information(q))),
+        b'r' => say(
+            rt,
+            rng::rand(tables, q.word(0), (q.n[1] % 256) as u8, q.word(2)).map(|x| [x]),
+        ),
+        b'w' => say(rt, q.row().map(|r| [r.l, r.p, r.b, r.p1])),
+        b'i' => say(rt, q.isi().map(|x| [ids::number(x)])),
+        b't' => say(
+            rt,
+            q.tuple(tables).map(|t| [t.d, t.a, t.b, t.d1, t.a1, t.b1]),
+        ),
+        b'c' => say_verdict(rt, transmission::check(q.information())),
         _ => {}
     }
-    print(rt, b"\n");
+    let _ = println!(rt);
 }
 
-// The question that begins at `from`, answered; the place where the next begins.
-fn line(rt: &impl Print, text: &[u8], from: usize, tables: &[u32]) -> usize
-    requires { from < length text.now }
-    ensures { (from < result) × (result ≤ length text.now) }
+// The question of that letter, and the text after it.
+fn read_question(kind: u8, text: &[u8]) -> (Question, &[u8])
+    ensures { length result.1.now ≤ length text.now }
 {
-    let kind = text[from];
-    let space = parse(text, from + 1);
-    let p0 = parse(text, space.at);
-    let p1 = parse(text, p0.at);
-    let p2 = parse(text, p1.at);
-    let p3 = parse(text, p2.at);
-    let p4 = parse(text, p3.at);
-    let p5 = parse(text, p4.at);
-    let p6 = parse(text, p5.at);
-    let q = Question {
-        kind,
-        n0: p0.value,
-        n1: p1.value,
-        n2: p2.value,
-        n3: p3.value,
-        n4: p4.value,
-        n5: p5.value,
-        n6: p6.value,
-    };
-    answer(rt, q, tables);
-    p6.at
-}
-
-// The place after the tables.
-fn read_tables(text: &[u8], tables: &mut [u32]) -> usize
-    ensures { result ≤ length text.now }
-{
-    let mut at = 0;
-    let mut i = 0;
-    while i < tables.len() {
-        let p = parse(text, at);
-        tables[i] = word(p.value);
-        at = p.at;
-        i += 1;
+    let (_, mut rest) = number(text); // the space
+    let mut n = [0u64; 7];
+    for x in n.iter_mut() {
+        (*x, rest) = number(rest);
     }
-    at
+    (Question { kind, n }, rest)
 }
 
-fn lines(rt: &impl Print, text: &[u8], from: usize, tables: &[u32])
-    requires { from ≤ length text.now }
-{
-    let mut at = from;
-    while at < text.len() {
-        at = line(rt, text, at, tables);
+// The tables at the front of the text, and the text after them.
+fn read_tables<'a>(text: &'a [u8], tables: &mut [u32]) -> &'a [u8] {
+    let mut rest = text;
+    for entry in tables.iter_mut() {
+        let (x, more) = number(rest);
+        *entry = low_word(x);
+        rest = more;
     }
+    rest
 }
 
 fn run(rt: &impl Print, text: &[u8]) {
     let mut tables = [0u32; 1024];
-    let at = read_tables(text, &mut tables);
-    lines(rt, text, at, &tables);
-}
-
-// Until the store is full, the input ends or a read fails: so many bytes, at the front of the store.
-fn read_full<R: Read>(from: &mut R, store: &mut [u8]) -> usize
-    ensures { result ≤ length store.new }
-{
-    let mut n = 0;
-    while n < store.len() {
-        match from.read(&mut store[n..]) {
-            Ok(0) => return n,
-            Ok(more) => n += more,
-            Err(_) => return n,
-        }
+    let mut rest = read_tables(text, &mut tables);
+    while let Some((kind, more)) = rest.split_first() {
+        let (q, next) = read_question(*kind, more);
+        answer(rt, q, &tables);
+        rest = next;
     }
-    n
 }
 
 fn main(rt: HostRuntime) {
     let mut text = [0u8; 262144];
-    let n = read_full(&mut rt.stdin(), &mut text);
+    let n = input::read_full(&mut rt.stdin(), &mut text);
     run(&rt, &text[..n]);
 }

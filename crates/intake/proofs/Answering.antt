@@ -2,10 +2,9 @@
 -- Assumes nothing.
 use mathlib.Core.Path.{◌≡◌, refl, sym, ap, subst}
 use mathlib.Core.List.{List}
-use Prim.Native.Nat.{ℕ, ◌*◌, ◌<◌}
+use Prim.Native.Nat.{ℕ, ◌<◌}
 use Rattle.headers.specs.Row.{l_of}
 use Rattle.linear.specs.Bytes.{OctetSymbols}
-use Rattle.linear.specs.Rows.{OnlyBelow}
 use Rattle.elimination.specs.Steps.{StoresRoom}
 use Rattle.elimination.specs.Taking.{Lent}
 use Rattle.elimination.specs.Settling.{Settles}
@@ -13,8 +12,7 @@ use Rattle.elimination.specs.Solving.{HeldVerdict}
 use Rattle.elimination.specs.Verdict.{Means}
 use Rattle.elimination.proofs.Steps.{room-kept}
 use Rattle.elimination.proofs.Solving.{means-held, pivots-kept}
-use Rattle.elimination.specs.declared.beneath.solving.Progress.{Progress}
-use Rattle.elimination.specs.declared.beneath.solving.Progress.TheVariants.{Held, Clash}
+use Rattle.std.specs.Prelude.{Option, Some, None}
 use Rattle.elimination.specs.declared.verdict.Verdict.{Verdict}
 use Rattle.elimination.specs.declared.verdict.Verdict.TheVariants.{Contradiction}
 use Rattle.solver.specs.System.{hdpc_rows}
@@ -36,34 +34,26 @@ means-named : (z : Stretch) (st o o₁ : List ℕ) (v : Verdict) → Named z st 
 means-named z st o o₁ v n m =
     subst (λ (x : ℕ). Means (l_of z.row) x (system_in z) o o₁ v) n.t (subst (λ (x : ℕ). Means x (t_in st) (system_in z) o o₁ v) (ap l_of n.row) m)
 
-module _ {st ps a d st₁ ps₁ a₁ d₁ : List ℕ} {q : Progress} (u : Completes st ps a d st₁ ps₁ a₁ d₁ q) where
+module _ {st ps a d st₁ ps₁ a₁ d₁ : List ℕ} {q : Option ℕ} (u : Completes st ps a d st₁ ps₁ a₁ d₁ q) where
   -- no set fits
-  pub answers-clash : (o : List ℕ) → q ≡ Clash → AnswersHeld st ps a d o st₁ ps₁ a₁ d₁ o Contradiction
+  pub answers-clash : (o : List ℕ) → q ≡ None → AnswersHeld st ps a d o st₁ ps₁ a₁ d₁ o Contradiction
   answers-clash o e z h =
       let p = u.holds z h in
       (p.0, means-named z st o o Contradiction h.named (subst (Says (l_in st) (t_in st) (system_in z) ps₁ a₁ d₁) e p.1, refl))
 
-  module _ (l r : ℕ) (is : l ≡ l_in st) (e : q ≡ Held r) where
+  module _ (r : ℕ) (e : q ≡ Some r) where
     -- the held rows stand in the stores
-    pub settle-ready : Begun st ps → StoresRoom (l_in st) (l_in st) (t_in st) a d → Lent l (t_in st) r ps₁ a₁ d₁
-    settle-ready b room =
-        rw is (held-lent (record {
-          room = room-kept room u.within.rows.size u.within.symbols.size;
-          pivots = pivots-kept (pivots-for b) u.within.pivots.size;
-          placed = subst (Placed (l_in st) ps₁) e u.placed;
-        }))
+    pub settle-ready : Begun st ps → StoresRoom (l_in st) (l_in st) (t_in st) a d → Lent (l_in st) (t_in st) r ps₁ a₁ d₁
+    settle-ready b room = held-lent (record {
+      room = room-kept room u.within.rows.size u.within.symbols.size;
+      pivots = pivots-kept (pivots-for b) u.within.pivots.size;
+      placed = subst (Placed (l_in st) ps₁) e u.placed;
+    })
 
-    pub answers-held : (o o₁ : List ℕ) (v : Verdict) → 0 < t_in st → Settles l (t_in st) r ps₁ a₁ d₁ o o₁ → HeldVerdict l r v
+    pub answers-held : (o o₁ : List ℕ) (v : Verdict) → 0 < t_in st → Settles (l_in st) (t_in st) r ps₁ a₁ d₁ o o₁ → HeldVerdict (l_in st) r v
         → AnswersHeld st ps a d o st₁ ps₁ a₁ d₁ o₁ v
     answers-held o o₁ v pos s w z h =
         let p = u.holds z h in
         let said = subst (Says (l_in st) (t_in st) (system_in z) ps₁ a₁ d₁) e p.1 in
-        let small = subst (λ (x : ℕ). OctetSymbols x (system_in z)) (sym h.named.t) (sent-octets z h.sent) in (
-          p.0,
-          means-named z st o o₁ v h.named
-              (means-held ps₁ a₁ d₁ o (system_in z) pos said.0 (subst (λ (x : ℕ). Settles x (t_in st) r ps₁ a₁ d₁ o o₁) is s) small said.1 v
-              (subst (λ (x : ℕ). HeldVerdict x r v) is w)),
-        )
-
-    pub settled-past : {o o₁ : List ℕ} → Settles l (t_in st) r ps₁ a₁ d₁ o o₁ → OnlyBelow (l_in st * t_in st) o o₁
-    settled-past {o} {o₁} s = subst (λ (x : ℕ). OnlyBelow (x * t_in st) o o₁) is s.past
+        let small = subst (λ (x : ℕ). OctetSymbols x (system_in z)) (sym h.named.t) (sent-octets z h.sent) in
+        (p.0, means-named z st o o₁ v h.named (means-held ps₁ a₁ d₁ o (system_in z) pos said.0 s small said.1 v w))

@@ -165,9 +165,5 @@ question-passed st a d o e =
 pub unbegun : {st ps : List ℕ} {o : Outcome (Unit {0})} (b : Bool) → not b ≡ true → Told b (Begun st ps) → Admitted st ps o (refused 14)
 unbegun b e t = record { since = false; told = denied b e t; answer = refl }
 
--- begun
-pub begun-so : {st ps : List ℕ} {o x : Outcome (Unit {0})} → Begun st ps → x ≡ o → Admitted st ps o x
-begun-so b e = record { since = true; told = b; answer = e }
-
 pub unchanged : {st ps a d : List ℕ} → Unchanged st ps a d st ps a d
 unchanged = record { state = refl; pivots = refl; rows = refl; symbols = refl }

@@ -48,7 +48,7 @@ module _ (v : List ℕ) (r : Row) (k : ℕ) where
 
 -- ---- as they are laid
 
-from_zero : {f : ℕ → ℕ} {xs ys : List ℕ} {n : ℕ} → Written f xs ys 0 n → (c : ℕ) → c < n → get_or ys c 0 ≡ f c
+pub from_zero : {f : ℕ → ℕ} {xs ys : List ℕ} {n : ℕ} → Written f xs ys 0 n → (c : ℕ) → c < n → get_or ys c 0 ≡ f c
 from_zero {ys = ys} w c h = ap (λ (i : ℕ). get_or ys i 0) (sym (zero-add c)) ∙ w.part c h
 
 module _ (v : List ℕ) (r : Row) (k j : ℕ) (o : Obeys r) (xs ys : List ℕ) where
@@ -78,9 +78,6 @@ all-blank (suc n) = ap (λ (b : Bool). and_then b (eqb 0 0)) (all-blank n)
 
 pub cleared : {xs ys : List ℕ} {n : ℕ} → Written (λ _. 0) xs ys 0 n → true ≡ zero_from ys 0 n
 cleared {n = n} w = sym (all-blank n) ∙ zero-written w
-
-pub cleared_at : {xs ys : List ℕ} {n : ℕ} → Written (λ _. 0) xs ys 0 n → (b : ℕ) → b < n → get_or ys b 0 ≡ 0
-cleared_at w b h = from_zero w b h
 
 -- a choice between nothing and nothing
 blank : (n : ℕ) (f g : ℕ → ℕ → ℕ) → ((i b : ℕ) → f i b ≡ 0) → ((i b : ℕ) → g i b ≡ 0) → (i b : ℕ) → ahead n f g i b ≡ 0

@@ -2,7 +2,6 @@
 pub mod Systems
 pub mod Fixed
 pub mod Steps
-pub mod Looking
 pub mod Stretches
 pub mod Refusing
 pub mod Packets

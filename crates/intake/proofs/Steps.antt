@@ -19,8 +19,7 @@ use Rattle.elimination.specs.Steps.{column}
 use Rattle.elimination.specs.Reducing.{Reduces}
 use Rattle.elimination.specs.Taking.{Lent, RoomForOne, Became}
 use Rattle.elimination.specs.Solving.{progressed}
-use Rattle.elimination.specs.declared.beneath.solving.Progress.{Progress}
-use Rattle.elimination.specs.declared.beneath.solving.Progress.TheVariants as Progresses
+use Rattle.std.specs.Prelude.{Option, Some, None}
 use Rattle.elimination.specs.declared.beneath.taking.Taken.{Taken}
 use Rattle.elimination.specs.declared.beneath.taking.Taken.TheVariants.{Held, Dependent, Clash}
 use Rattle.elimination.proofs.Steps.{room-kept}
@@ -31,7 +30,7 @@ use Rattle.intake.proofs.Systems.{Alike, alike-none, alike-shift, says-alike, al
 -- ---- where the next one may go
 
 -- the held rows stand there
-pub held-lent : {L T r : ℕ} {ps a d : List ℕ} → Takable L T ps a d (Progresses.Held r) → Lent L T r ps a d
+pub held-lent : {L T r : ℕ} {ps a d : List ℕ} → Takable L T ps a d (Some r) → Lent L T r ps a d
 held-lent {L} {T} u = record {
   rows = omega (arith, u.room.rows, mul-le-mul_right L u.placed.0);
   symbols = omega (arith, u.room.symbols, mul-le-mul_right T u.placed.0);
@@ -40,7 +39,7 @@ held-lent {L} {T} u = record {
 }
 
 -- and while fewer are held than there are columns there is a place for one more
-pub place-next : {L T r : ℕ} {ps a d : List ℕ} → Takable L T ps a d (Progresses.Held r) → r < L → RoomForOne L T r ps a d
+pub place-next : {L T r : ℕ} {ps a d : List ℕ} → Takable L T ps a d (Some r) → r < L → RoomForOne L T r ps a d
 place-next {L} {T} {r} u h = record {
   rows = omega (arith, u.room.rows, mul-le-mul_right {m = r + 1} {n = L} L (omega arith));
   symbols = omega (arith, u.room.symbols, mul-le-mul_right {m = r + 1} {n = L} T (omega arith));
@@ -50,7 +49,7 @@ place-next {L} {T} {r} u h = record {
 -- ---- what became of one equation
 
 module _ (L T r : ℕ) (ps a d x y ps₁ a₁ d₁ : List ℕ) where
-  became-placed : Placed L ps (Progresses.Held r) → (k : Taken) → Became L T r ps a d x y ps₁ a₁ d₁ k → Placed L ps₁ (progressed r k)
+  became-placed : Placed L ps (Some r) → (k : Taken) → Became L T r ps a d x y ps₁ a₁ d₁ k → Placed L ps₁ (progressed r k)
   became-placed p Held (h, (c, b, u), q) = (omega arith, λ k l. go k l (ℕ_discrete k r))
     where
       go : (k : ℕ) → k < r + 1 → Dec (k ≡ r) → column ps₁ k < L
@@ -94,7 +93,7 @@ module _ {L T : ℕ} (S : System ℕ) (x y : List ℕ) where
       go i (inl o) = inl o
       go i (inr o) = inr (record { coefs = λ c l. o.2.coefs c l; bytes = λ b l. o.2.bytes b l })
 
-  module _ {r : ℕ} {ps a d : List ℕ} (l : Lent L T r ps a d) (h : Says L T S ps a d (Progresses.Held r)) where
+  module _ {r : ℕ} {ps a d : List ℕ} (l : Lent L T r ps a d) (h : Says L T S ps a d (Some r)) where
     more : Holds (r + 1) L T (with-buffered S x y) (behind L r a x) (behind T r d y)
     more = holds_more l.rows l.symbols h.1 one_more
 
@@ -104,12 +103,12 @@ module _ {L T : ℕ} (S : System ℕ) (x y : List ℕ) where
     became-says ps₁ a₁ d₁ Clash (s, q) = (q h.0).none (with-buffered S x y) more
 
 -- held rows are no clash
-held-not : {r : ℕ} {A : Type 0} → Progresses.Held r ≡ Progresses.Clash → A
+held-not : {r : ℕ} {A : Type 0} → Some r ≡ None → A
 held-not e = absurd (let z : ◌≡◌ {A = ℕ} 0 1 = cc in omega arith)
 
 -- whatever became of it, it was added
-pub became-adds : {L T r : ℕ} (ps a d x y ps₁ a₁ d₁ : List ℕ) → Takable L T ps a d (Progresses.Held r) → (k : Taken)
-    → Became L T r ps a d x y ps₁ a₁ d₁ k → Adds L T (buffered x y) ps a d ps₁ a₁ d₁ (Progresses.Held r) (progressed r k)
+pub became-adds : {L T r : ℕ} (ps a d x y ps₁ a₁ d₁ : List ℕ) → Takable L T ps a d (Some r) → (k : Taken)
+    → Became L T r ps a d x y ps₁ a₁ d₁ k → Adds L T (buffered x y) ps a d ps₁ a₁ d₁ (Some r) (progressed r k)
 became-adds {L} {T} {r} ps a d x y ps₁ a₁ d₁ u k b = record {
   rows = became-rows L T r ps a d x y ps₁ a₁ d₁ k b;
   symbols = became-symbols L T r ps a d x y ps₁ a₁ d₁ k b;
@@ -120,7 +119,7 @@ became-adds {L} {T} {r} ps a d x y ps₁ a₁ d₁ u k b = record {
 }
 
 -- after a clash nothing is left to learn
-pub clash-adds : {L T : ℕ} (x y ps a d : List ℕ) → Adds L T (buffered x y) ps a d ps a d Progresses.Clash Progresses.Clash
+pub clash-adds : {L T : ℕ} (x y ps a d : List ℕ) → Adds L T (buffered x y) ps a d ps a d None None
 clash-adds {L} {T} x y ps a d = record {
   rows = only-refl;
   symbols = only-refl;
@@ -131,8 +130,8 @@ clash-adds {L} {T} x y ps a d = record {
 }
 
 -- the rows may become unit rows afterwards
-pub adds-reduced : {L T : ℕ} {R : System ℕ} (ps a d ps₁ a₁ d₁ a₂ d₂ : List ℕ) {p : Progress} → Adds L T R ps a d ps₁ a₁ d₁ p (Progresses.Held L)
-    → Reduces L T ps₁ a₁ d₁ a₂ d₂ → Adds L T R ps a d ps₁ a₂ d₂ p (Progresses.Held L)
+pub adds-reduced : {L T : ℕ} {R : System ℕ} (ps a d ps₁ a₁ d₁ a₂ d₂ : List ℕ) {p : Option ℕ} → Adds L T R ps a d ps₁ a₁ d₁ p (Some L)
+    → Reduces L T ps₁ a₁ d₁ a₂ d₂ → Adds L T R ps a d ps₁ a₂ d₂ p (Some L)
 adds-reduced {R = R} ps a d ps₁ a₁ d₁ a₂ d₂ u w = record {
   rows = only-trans u.rows w.rows;
   symbols = only-trans u.symbols w.symbols;
@@ -145,7 +144,7 @@ adds-reduced {R = R} ps a d ps₁ a₁ d₁ a₂ d₂ u w = record {
 -- ---- one after the other
 
 -- the next may be taken
-pub adds-takable : {L T : ℕ} {R : System ℕ} (ps a d ps₁ a₁ d₁ : List ℕ) {p q : Progress} → Takable L T ps a d p → Adds L T R ps a d ps₁ a₁ d₁ p q
+pub adds-takable : {L T : ℕ} {R : System ℕ} (ps a d ps₁ a₁ d₁ : List ℕ) {p q : Option ℕ} → Takable L T ps a d p → Adds L T R ps a d ps₁ a₁ d₁ p q
     → Takable L T ps₁ a₁ d₁ q
 adds-takable ps a d ps₁ a₁ d₁ u w = record {
   room = room-kept u.room w.rows.size w.symbols.size;
@@ -154,9 +153,9 @@ adds-takable ps a d ps₁ a₁ d₁ u w = record {
 }
 
 -- when it was told what became of it
-module _ {L T r : ℕ} (ps a d x y ps₁ a₁ d₁ : List ℕ) (u : Takable L T ps a d (Progresses.Held r)) (k : Taken) (b : Became L T r ps a d x y ps₁ a₁ d₁ k) where
-  pub told-adds : {j : Taken} → k ≡ j → Adds L T (buffered x y) ps a d ps₁ a₁ d₁ (Progresses.Held r) (progressed r j)
-  told-adds e = subst (λ (z : Taken). Adds L T (buffered x y) ps a d ps₁ a₁ d₁ (Progresses.Held r) (progressed r z)) e (became-adds ps a d x y ps₁ a₁ d₁ u k b)
+module _ {L T r : ℕ} (ps a d x y ps₁ a₁ d₁ : List ℕ) (u : Takable L T ps a d (Some r)) (k : Taken) (b : Became L T r ps a d x y ps₁ a₁ d₁ k) where
+  pub told-adds : {j : Taken} → k ≡ j → Adds L T (buffered x y) ps a d ps₁ a₁ d₁ (Some r) (progressed r j)
+  told-adds e = subst (λ (z : Taken). Adds L T (buffered x y) ps a d ps₁ a₁ d₁ (Some r) (progressed r z)) e (became-adds ps a d x y ps₁ a₁ d₁ u k b)
 
   -- the last place was taken
   module _ (e : k ≡ Held) (f : r + 1 ≡ L) where
@@ -164,12 +163,12 @@ module _ {L T r : ℕ} (ps a d x y ps₁ a₁ d₁ : List ℕ) (u : Takable L T 
     full-lent = subst (λ (n : ℕ). Lent L T n ps₁ a₁ d₁) f (held-lent (adds-takable ps a d ps₁ a₁ d₁ u (told-adds e)))
 
     pub full-adds : (a₂ d₂ : List ℕ) → Reduces L T ps₁ a₁ d₁ a₂ d₂
-        → Adds L T (buffered x y) ps a d ps₁ a₂ d₂ (Progresses.Held r) (Progresses.Held L)
+        → Adds L T (buffered x y) ps a d ps₁ a₂ d₂ (Some r) (Some L)
     full-adds a₂ d₂ w =
         adds-reduced ps a d ps₁ a₁ d₁ a₂ d₂
-        (subst (λ (n : ℕ). Adds L T (buffered x y) ps a d ps₁ a₁ d₁ (Progresses.Held r) (Progresses.Held n)) f (told-adds e)) w
+        (subst (λ (n : ℕ). Adds L T (buffered x y) ps a d ps₁ a₁ d₁ (Some r) (Some n)) f (told-adds e)) w
 
-pub adds_none : {L T : ℕ} (R : System ℕ) (ps a d : List ℕ) (p : Progress) → R.count ≡ 0 → Placed L ps p → Adds L T R ps a d ps a d p p
+pub adds_none : {L T : ℕ} (R : System ℕ) (ps a d : List ℕ) (p : Option ℕ) → R.count ≡ 0 → Placed L ps p → Adds L T R ps a d ps a d p p
 adds_none R ps a d p e h = record {
   rows = only-refl;
   symbols = only-refl;
@@ -179,7 +178,7 @@ adds_none R ps a d p e h = record {
   says = λ S x. says-alike ps a d p (alike-none S R e) x;
 }
 
-pub adds-alike : {L T : ℕ} (R Q : System ℕ) (ps a d ps₁ a₁ d₁ : List ℕ) (p q : Progress) → Alike L T R Q → Adds L T R ps a d ps₁ a₁ d₁ p q
+pub adds-alike : {L T : ℕ} (R Q : System ℕ) (ps a d ps₁ a₁ d₁ : List ℕ) (p q : Option ℕ) → Alike L T R Q → Adds L T R ps a d ps₁ a₁ d₁ p q
     → Adds L T Q ps a d ps₁ a₁ d₁ p q
 adds-alike R Q ps a d ps₁ a₁ d₁ p q f u = record {
   rows = u.rows;
@@ -190,7 +189,7 @@ adds-alike R Q ps a d ps₁ a₁ d₁ p q f u = record {
   says = λ S h. says-alike ps₁ a₁ d₁ q (alike-parts S R S Q (alike_self S) f) (u.says S h);
 }
 
-pub adds_then : {L T : ℕ} (R Q : System ℕ) (ps a d ps₁ a₁ d₁ ps₂ a₂ d₂ : List ℕ) (p o q : Progress) → Adds L T R ps a d ps₁ a₁ d₁ p o
+pub adds_then : {L T : ℕ} (R Q : System ℕ) (ps a d ps₁ a₁ d₁ ps₂ a₂ d₂ : List ℕ) (p o q : Option ℕ) → Adds L T R ps a d ps₁ a₁ d₁ p o
     → Adds L T Q ps₁ a₁ d₁ ps₂ a₂ d₂ o q → Adds L T (joined R Q) ps a d ps₂ a₂ d₂ p q
 adds_then R Q ps a d ps₁ a₁ d₁ ps₂ a₂ d₂ p o q u w = record {
   rows = only-trans u.rows w.rows;

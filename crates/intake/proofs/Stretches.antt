@@ -20,20 +20,19 @@ use Rattle.linear.specs.Bytes.{Bytes}
 use Rattle.linear.proofs.Growth.{contradiction-remains}
 use Rattle.linear.proofs.Rows.{only-refl}
 use Rattle.elimination.specs.Steps.{StoresRoom}
-use Rattle.elimination.specs.declared.beneath.solving.Progress.{Progress}
-use Rattle.elimination.specs.declared.beneath.solving.Progress.TheVariants.{Held, Clash}
+use Rattle.std.specs.Prelude.{Option, Some, None}
 use Rattle.solver.specs.System.{fixed_with, hdpc_rows, sent_row}
 use Rattle.solver.proofs.Groups.{has-arrivals}
 use Rattle.intake.specs.Taking.{Says, Placed, Adds, single}
 use Rattle.intake.specs.State.{Begun, Counts, row_in, k_in, t_in, held_in, mark_in, tables_in, l_in, progress_in}
 use Rattle.intake.specs.State.{held_by, mark_by, noted}
-use Rattle.intake.specs.Night.{Stretch, Holding, Named, Sent, Packet, Within, Completes, arrived, system_in, taken_of}
+use Rattle.intake.specs.Night.{Stretch, Holding, Named, Sent, Packet, Completes, arrived, system_in, taken_of}
 use Rattle.intake.proofs.Systems.{Alike, says-alike, alike_self, alike_then, alike-parts, packet-more, system-more, system-whole}
 
 -- ---- the two words that change
 
 -- the others stay
-pub record Noted (st st₁ : List ℕ) (q : Progress) (m : ℕ) : Type 0 where
+pub record Noted (st st₁ : List ℕ) (q : Option ℕ) (m : ℕ) : Type 0 where
   pub size : length st₁ ≡ length st
   pub row : row_in st₁ ≡ row_in st
   pub k : k_in st₁ ≡ k_in st
@@ -42,7 +41,7 @@ pub record Noted (st st₁ : List ℕ) (q : Progress) (m : ℕ) : Type 0 where
   pub held : held_in st₁ ≡ held_by q
   pub mark : mark_in st₁ ≡ mark_by q m
 
-pub noting : (st st₁ : List ℕ) (q : Progress) (m : ℕ) → 1037 ≤ length st → Written (λ i. get_or (noted q m) i 0) st st₁ 11 2 → Noted st st₁ q m
+pub noting : (st st₁ : List ℕ) (q : Option ℕ) (m : ℕ) → 1037 ≤ length st → Written (λ i. get_or (noted q m) i 0) st st₁ 11 2 → Noted st st₁ q m
 noting st st₁ q m long w = record {
   size = w.size;
   row = rw (
@@ -74,19 +73,19 @@ noting st st₁ q m long w = record {
 
 -- ---- where the elimination stands then
 
-progress-by : (q : Progress) (m : ℕ) → (m ≡ 3 → q ≡ Clash) → pick (eqb (mark_by q m) 3) Clash (Held (held_by q)) ≡ q
-progress-by (Held r) m h = go (eqb m 3) refl
+progress-by : (q : Option ℕ) (m : ℕ) → (m ≡ 3 → q ≡ None) → pick (eqb (mark_by q m) 3) None (Some (held_by q)) ≡ q
+progress-by (Some r) m h = go (eqb m 3) refl
   where
-    go : (b : Bool) → eqb m 3 ≡ b → pick (eqb m 3) Clash (Held r) ≡ Held r
-    go true e = ap (λ (b : Bool). pick b Clash (Held r)) e ∙ sym (h (eqb-true m 3 e))
-    go false e = ap (λ (b : Bool). pick b Clash (Held r)) e
-progress-by Clash m h = refl
+    go : (b : Bool) → eqb m 3 ≡ b → pick (eqb m 3) None (Some r) ≡ Some r
+    go true e = ap (λ (b : Bool). pick b None (Some r)) e ∙ sym (h (eqb-true m 3 e))
+    go false e = ap (λ (b : Bool). pick b None (Some r)) e
+progress-by None m h = refl
 
-mark-bounds : (q : Progress) (m : ℕ) → 1 ≤ m → m ≤ 3 → (1 ≤ mark_by q m) × (mark_by q m ≤ 3)
-mark-bounds (Held r) m a b = (a, b)
-mark-bounds Clash m a b = (omega arith, omega arith)
+mark-bounds : (q : Option ℕ) (m : ℕ) → 1 ≤ m → m ≤ 3 → (1 ≤ mark_by q m) × (mark_by q m ≤ 3)
+mark-bounds (Some r) m a b = (a, b)
+mark-bounds None m a b = (omega arith, omega arith)
 
-module _ (st st₁ : List ℕ) {m : ℕ} (q : Progress) (n : Noted st st₁ q m) where
+module _ (st st₁ : List ℕ) {m : ℕ} (q : Option ℕ) (n : Noted st st₁ q m) where
   pub l-same : l_in st₁ ≡ l_in st
   l-same = ap l_of n.row
 
@@ -97,9 +96,9 @@ module _ (st st₁ : List ℕ) {m : ℕ} (q : Progress) (n : Noted st st₁ q m)
     symbols = subst (λ (x : ℕ). x ≤ length d₁) (sym (ap₂ ◌*◌ l-same n.t)) (omega (arith, r.symbols));
   }
 
-  module _ (clash : m ≡ 3 → q ≡ Clash) where
+  module _ (clash : m ≡ 3 → q ≡ None) where
     pub progress-noted : progress_in st₁ ≡ q
-    progress-noted = ap₂ (λ (x y : ℕ). pick (eqb x 3) Clash (Held y)) n.mark n.held ∙ progress-by q m clash
+    progress-noted = ap₂ (λ (x y : ℕ). pick (eqb x 3) None (Some y)) n.mark n.held ∙ progress-by q m clash
 
     pub begun-noted : (ps ps₁ : List ℕ) → Begun st ps → length ps₁ ≡ length ps → 1 ≤ m → m ≤ 3 → Placed (l_in st) ps₁ q → Begun st₁ ps₁
     begun-noted ps ps₁ b long low high p = record {
@@ -126,7 +125,7 @@ module _ (st st₁ : List ℕ) {m : ℕ} (q : Progress) (n : Noted st st₁ q m)
         bounds = mark-bounds q m low high
 
 -- what is said in the words before is said in the words now
-pub says-words : (st st₁ : List ℕ) {m : ℕ} (q : Progress) → Noted st st₁ q m → (m ≡ 3 → q ≡ Clash) → (S : Bool → System ℕ) (ps a d : List ℕ)
+pub says-words : (st st₁ : List ℕ) {m : ℕ} (q : Option ℕ) → Noted st st₁ q m → (m ≡ 3 → q ≡ None) → (S : Bool → System ℕ) (ps a d : List ℕ)
     → Says (l_in st) (t_in st) (S (eqb (mark_by q m) 1)) ps a d q → Says (l_in st₁) (t_in st₁) (S (eqb (mark_in st₁) 1)) ps a d (progress_in st₁)
 says-words st st₁ {m = m} q n clash S ps a d x =
     subst (Says (l_in st₁) (t_in st₁) (S (eqb (mark_in st₁) 1)) ps a d) (sym (progress-noted st st₁ q n clash))
@@ -184,36 +183,28 @@ module _ (z : Stretch) (st : List ℕ) (e : ℕ) (s : List ℕ) (named : Named z
       (alike_then (alike-parts (taken_of z b) came-now (taken_of z b) came-of (alike_self (taken_of z b)) now_of) (taken-of L b))
 
   -- a clash of what was taken is one of all
-  said : (L T : ℕ) (ps a d : List ℕ) (b : Bool) (q : Progress) (m : ℕ) → eqb m 1 ≡ b → Says L T (taken_of (arrived z e s) b) ps a d q
+  said : (L T : ℕ) (ps a d : List ℕ) (b : Bool) (q : Option ℕ) (m : ℕ) → eqb m 1 ≡ b → Says L T (taken_of (arrived z e s) b) ps a d q
       → Says L T (taken_of (arrived z e s) (eqb (mark_by q m) 1)) ps a d q
-  said L T ps a d b (Held r) m q x = subst (λ (c : Bool). Says L T (taken_of (arrived z e s) c) ps a d (Held r)) (sym q) x
-  said L T ps a d true Clash m q x =
+  said L T ps a d b (Some r) m q x = subst (λ (c : Bool). Says L T (taken_of (arrived z e s) c) ps a d (Some r)) (sym q) x
+  said L T ps a d true None m q x =
       let y = arrived z e s in
       contradiction-remains (has-arrivals (hdpc_rows y.tables y.row) y.row y.tables y.k y.t y.esis y.symbols L T) x
-  said L T ps a d false Clash m q x = x
+  said L T ps a d false None m q x = x
 
 -- a mark of 3 is a clash
-pub marked : (st : List ℕ) → mark_in st ≡ 3 → progress_in st ≡ Clash
-marked st m = ap (λ (z : ℕ). pick (eqb z 3) Clash (Held (held_in st))) m
+pub marked : (st : List ℕ) → mark_in st ≡ 3 → progress_in st ≡ None
+marked st m = ap (λ (z : ℕ). pick (eqb z 3) None (Some (held_in st))) m
 
 -- the packet that was taken, with its row and its symbol
-module _ (st ps a d st₁ ps₁ a₁ d₁ : List ℕ) (e : ℕ) (s : List ℕ) (q : Progress) (k : Packet e s st ps a d) (bytes : Bytes s)
+module _ (st ps a d st₁ ps₁ a₁ d₁ : List ℕ) (e : ℕ) (s : List ℕ) (q : Option ℕ) (k : Packet e s st ps a d) (bytes : Bytes s)
     (w : Written (λ i. get_or (noted q (mark_in st)) i 0) st st₁ 11 2)
     (adds : Adds (l_in st) (t_in st) (single (sent_row (tables_in st) (row_in st) (k_in st) e) (λ b. get_or s b 0)) ps a d ps₁ a₁ d₁ (progress_in st) q) where
   n : Noted st st₁ q (mark_in st)
   n = noting st st₁ q (mark_in st) k.begun.numbers.size w
 
   -- no packet clears the mark of a contradiction
-  clash : mark_in st ≡ 3 → q ≡ Clash
+  clash : mark_in st ≡ 3 → q ≡ None
   clash m = adds.stays (marked st m)
-
-  pub packet-within : Within st ps a d st₁ ps₁ a₁ d₁
-  packet-within = record {
-    state = record { size = w.size; part = λ i h. refl; low = w.low; high = w.high };
-    pivots = adds.pivots;
-    rows = adds.rows;
-    symbols = adds.symbols;
-  }
 
   packet-begun : Begun st₁ ps₁
   packet-begun =
@@ -246,7 +237,7 @@ fixed-as {v} {v₁} {r} {r₁} {k} {k₁} p q o =
     ap (λ (x : List ℕ). fixed_with (hdpc_rows x r) x r k) p ∙ ap (λ (x : Row). fixed_with (hdpc_rows v₁ x) v₁ x k) q
     ∙ ap (λ (x : ℕ). fixed_with (hdpc_rows v₁ r₁) v₁ r₁ x) o
 
-module _ (st ps a d st₁ ps₁ a₁ d₁ : List ℕ) (q : Progress) (b : Begun st ps) (first : mark_in st ≡ 1)
+module _ (st ps a d st₁ ps₁ a₁ d₁ : List ℕ) (q : Option ℕ) (b : Begun st ps) (first : mark_in st ≡ 1)
     (room : StoresRoom (l_in st) (l_in st) (t_in st) a d)
     (adds : Adds (l_in st) (t_in st) (fixed_with (hdpc_rows (tables_in st) (row_in st)) (tables_in st) (row_in st) (k_in st)) ps a d ps₁ a₁ d₁ (progress_in st) q)
     (w : Written (λ i. get_or (noted q 2) i 0) st st₁ 11 2) where
@@ -266,12 +257,12 @@ module _ (st ps a d st₁ ps₁ a₁ d₁ : List ℕ) (q : Progress) (b : Begun 
           (fixed-as h.named.tables h.named.row h.named.k) (alike_self _)
 
   -- with them the mark is 2, or 3
-  by-mark : (z : Stretch) (p : Progress) → Says (l_in st) (t_in st) (system_in z) ps₁ a₁ d₁ p
+  by-mark : (z : Stretch) (p : Option ℕ) → Says (l_in st) (t_in st) (system_in z) ps₁ a₁ d₁ p
       → Says (l_in st) (t_in st) (taken_of z (eqb (mark_by p 2) 1)) ps₁ a₁ d₁ p
-  by-mark z (Held r) x = x
-  by-mark z Clash x = x
+  by-mark z (Some r) x = x
+  by-mark z None x = x
 
-  late : ◌≡◌ {A = ℕ} 2 3 → q ≡ Clash
+  late : ◌≡◌ {A = ℕ} 2 3 → q ≡ None
   late e = absurd (omega (arith, e))
 
   complete-begun : Begun st₁ ps₁

@@ -18,8 +18,7 @@ use Rattle.linear.proofs.Joined.{one_then, same-turned, included-self, included-
 use Rattle.linear.proofs.Joined.{included-both, included-parts}
 use Rattle.linear.proofs.Span.{within-trans}
 use Rattle.linear.proofs.System.{follows-included}
-use Rattle.elimination.specs.declared.beneath.solving.Progress.{Progress}
-use Rattle.elimination.specs.declared.beneath.solving.Progress.TheVariants.{Held, Clash}
+use Rattle.std.specs.Prelude.{Option, Some, None}
 use Rattle.solver.specs.System.{hdpc_rows, sent_row, arrival_rows, fixed_with, system_of}
 use Rattle.intake.specs.Taking.{Says, single}
 
@@ -34,9 +33,6 @@ module _ {L T : ℕ} where
 
   pub alike_then : {S R Q : System ℕ} → Alike L T S R → Alike L T R Q → Alike L T S Q
   alike_then f g = record { to = included-then f.to g.to; back = included-then g.back f.back }
-
-  pub alike_turned : {S R : System ℕ} → Alike L T S R → Alike L T R S
-  alike_turned f = record { to = f.back; back = f.to }
 
   pub alike-parts : (S R Q P : System ℕ) → Alike L T S Q → Alike L T R P → Alike L T (joined S R) (joined Q P)
   alike-parts S R Q P f g = record { to = included-parts L T S R Q P f.to g.to; back = included-parts L T Q P S R f.back g.back }
@@ -69,9 +65,9 @@ holds-alike {L = L} {T = T} f h = record {
   back = within-trans octets (follows-included octets L T (included-octets f.back)) h.back;
 }
 
-pub says-alike : {L T : ℕ} {S R : System ℕ} (ps a d : List ℕ) (p : Progress) → Alike L T S R → Says L T S ps a d p → Says L T R ps a d p
-says-alike ps a d (Held r) f s = (s.0, holds-alike f s.1)
-says-alike ps a d Clash f s = same-contradiction f.to f.back s
+pub says-alike : {L T : ℕ} {S R : System ℕ} (ps a d : List ℕ) (p : Option ℕ) → Alike L T S R → Says L T S ps a d p → Says L T R ps a d p
+says-alike ps a d (Some r) f s = (s.0, holds-alike f s.1)
+says-alike ps a d None f s = same-contradiction f.to f.back s
 
 -- ---- a packet more: e with the symbol s, behind es and xs
 

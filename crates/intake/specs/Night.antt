@@ -1,11 +1,10 @@
 -- Document 02, E1 and E14: what an intake holds, when each of its three calls is refused, and what each leaves. What came since the last accepted begin is a
 -- stretch; the answers are those of the solver's system on it.
 -- Assumes nothing.
-use Rattle.std.specs.Prelude.{◌≡◌, Bool, true, false, not, List, [], ◌∷◌, ◌++◌, ℕ, ◌+◌, ◌*◌, ◌<◌, eqb, leb, ltb, length, get_or}
-use Rattle.field.specs.Answer.{Outcome, given, unless, before, done}
+use Rattle.std.specs.Prelude.{◌≡◌, Bool, true, false, not, List, [], ◌∷◌, ◌++◌, ℕ, ◌+◌, ◌*◌, ◌<◌, eqb, leb, ltb, length, get_or, Option, Result, Ok, Err}
+use Rattle.field.specs.Answer.{Outcome, given, unless, before, refused, code_of, outcome, outcome_of}
 use Rattle.field.specs.Runs.{Written}
-use Rattle.field.specs.declared.refusal.Answer.{Answer}
-use Rattle.field.specs.declared.refusal.Answer.TheVariants as Plains
+use Rattle.field.specs.declared.refusal.Refusal.{Refusal}
 use Rattle.headers.specs.Row.{verified, l_of}
 use Rattle.headers.specs.Told.{Told}
 use Rattle.headers.specs.declared.row.Row.{Row}
@@ -14,12 +13,8 @@ use Rattle.linear.specs.Bytes.{Bytes}
 use Rattle.linear.specs.Rows.{OnlyBelow}
 use Rattle.elimination.specs.Steps.{StoresRoom}
 use Rattle.elimination.specs.Verdict.{Means}
-use Rattle.elimination.specs.declared.beneath.solving.Progress.{Progress}
 use Rattle.elimination.specs.declared.verdict.Verdict.{Verdict}
 use Rattle.solver.specs.System.{arrival_rows, system_of}
-use Rattle.solver.specs.declared.solver.Solution.{Solution}
-use Rattle.solver.specs.declared.solver.Solution.TheVariants.{Given, Refused}
-use Rattle.field.specs.Answer.{refused, code_of}
 use Rattle.intake.specs.Taking.{Says, Placed}
 use Rattle.intake.specs.State.{Begun, row_in, k_in, t_in, mark_in, tables_in, l_in, progress_in, words}
 
@@ -85,11 +80,15 @@ pub record Holding (z : Stretch) (st ps a d : List ℕ) : Type 0 where
 abbrev pub stores_room : (l t a d : ℕ) → Outcome (Unit {0}) → Outcome (Unit {0})
 stores_room l t a d o = unless (ltb a (l * l)) 8 (unless (ltb d (l * t)) 8 o)
 
+-- refusal 8 of a begin: the stores, then a state of `state` words, then `pivots` places
+abbrev pub room_to_begin : Row → (t state pivots a d : ℕ) → Outcome (Unit {0})
+room_to_begin r t state pivots a d = stores_room (l_of r) t a d (unless (ltb state 1037) 8 (unless (ltb pivots (l_of r)) 8 (given tt)))
+
 -- begin, on numbers: 4, 5, 9, 10, 8. Tables of `tables` numbers, a state of `state` words, `pivots` places, stores of a and d octets
 abbrev pub beginnable : Row → (tables k t state pivots a d : ℕ) → Outcome (Unit {0})
 beginnable r tables k t state pivots a d =
     before (verified r) (unless (not (eqb tables 1024)) 5 (unless (ltb k 1) 9 (unless (ltb r.kp k) 9 (unless (eqb t 0) 10
-    (stores_room (l_of r) t a d (unless (ltb state 1037) 8 (unless (ltb pivots (l_of r)) 8 (given tt))))))))
+    (room_to_begin r t state pivots a d)))))
 
 -- a packet of an intake that was begun: 9, 10, 8. The ESI e, a symbol of s octets; how many came before it is not asked
 abbrev pub takable : List ℕ → (e s a d : ℕ) → Outcome (Unit {0})
@@ -108,12 +107,12 @@ pub record Admitted (st ps : List ℕ) (o x : Outcome (Unit {0})) : Type 0 where
 -- ---- the calls
 
 -- begin forgets all, and copies row and tables
-abbrev pub Begins : Row → List ℕ → (k t : ℕ) (st ps a d st₁ : List ℕ) → Answer → Type 0
-Begins r v k t st ps a d st₁ Plains.Done =
+abbrev pub Begins : Row → List ℕ → (k t : ℕ) (st ps a d st₁ : List ℕ) → Result (Unit {0}) Refusal → Type 0
+Begins r v k t st ps a d st₁ (Ok _) =
     (beginnable r (length v) k t (length st) (length ps) (length a) (length d) ≡ given tt)
     × Written (λ i. get_or (words r k t v) i 0) st st₁ 0 1037
     × Holding (fresh r v k t) st₁ ps a d
-Begins r v k t st ps a d st₁ (Plains.Refused why) =
+Begins r v k t st ps a d st₁ (Err why) =
     (beginnable r (length v) k t (length st) (length ps) (length a) (length d) ≡ refused (code_of why)) × (st₁ ≡ st)
 
 -- what a call may change, of a state that was begun: two words, L pivots, and L places of each store
@@ -141,12 +140,12 @@ pub record Packet (e : ℕ) (s st ps a d : List ℕ) : Type 0 where
 abbrev pub HoldsMore : (e : ℕ) (s st ps a d st₁ ps₁ a₁ d₁ : List ℕ) → Type 0
 HoldsMore e s st ps a d st₁ ps₁ a₁ d₁ = (z : Stretch) → Holding z st ps a d → Holding (arrived z e s) st₁ ps₁ a₁ d₁
 
-abbrev pub TakesBy : (e : ℕ) (s st ps a d st₁ ps₁ a₁ d₁ : List ℕ) → Answer → Type 0
-TakesBy e s st ps a d st₁ ps₁ a₁ d₁ Plains.Done = Within st ps a d st₁ ps₁ a₁ d₁ × HoldsMore e s st ps a d st₁ ps₁ a₁ d₁
-TakesBy e s st ps a d st₁ ps₁ a₁ d₁ (Plains.Refused why) = Unchanged st ps a d st₁ ps₁ a₁ d₁
+abbrev pub TakesBy : (e : ℕ) (s st ps a d st₁ ps₁ a₁ d₁ : List ℕ) → Result (Unit {0}) Refusal → Type 0
+TakesBy e s st ps a d st₁ ps₁ a₁ d₁ (Ok _) = Within st ps a d st₁ ps₁ a₁ d₁ × HoldsMore e s st ps a d st₁ ps₁ a₁ d₁
+TakesBy e s st ps a d st₁ ps₁ a₁ d₁ (Err why) = Unchanged st ps a d st₁ ps₁ a₁ d₁
 
-pub record Takes (e : ℕ) (s st ps a d st₁ ps₁ a₁ d₁ : List ℕ) (x : Answer) : Type 0 where
-  pub admitted : Admitted st ps (takable st e (length s) (length a) (length d)) (done x)
+pub record Takes (e : ℕ) (s st ps a d st₁ ps₁ a₁ d₁ : List ℕ) (x : Result (Unit {0}) Refusal) : Type 0 where
+  pub admitted : Admitted st ps (takable st e (length s) (length a) (length d)) (outcome x)
   pub memory : TakesBy e s st ps a d st₁ ps₁ a₁ d₁ x
 
 -- what was held is held as before, and what is answered is what it comes to
@@ -155,21 +154,20 @@ AnswersHeld st ps a d o st₁ ps₁ a₁ d₁ o₁ v =
     (z : Stretch) → Holding z st ps a d → Holding z st₁ ps₁ a₁ d₁ × Means (l_of z.row) z.t (system_in z) o o₁ v
 
 -- the rows that row, tables and K fix are taken too, whatever was before: the elimination stands at q
-pub record Completes (st ps a d st₁ ps₁ a₁ d₁ : List ℕ) (q : Progress) : Type 0 where
+pub record Completes (st ps a d st₁ ps₁ a₁ d₁ : List ℕ) (q : Option ℕ) : Type 0 where
   pub within : Within st ps a d st₁ ps₁ a₁ d₁
   pub placed : Placed (l_in st) ps₁ q
   pub holds : (z : Stretch) → Holding z st ps a d → Holding z st₁ ps₁ a₁ d₁ × Says (l_in st) (t_in st) (system_in z) ps₁ a₁ d₁ q
 
 -- whether a question was answered
-abbrev pub asked : Solution → Outcome (Unit {0})
-asked (Given v) = given tt
-asked (Refused why) = refused (code_of why)
+abbrev pub asked : Result Verdict Refusal → Outcome (Unit {0})
+asked = outcome_of (λ _. tt)
 
-abbrev pub AsksBy : (st ps a d o st₁ ps₁ a₁ d₁ o₁ : List ℕ) → Solution → Type 0
-AsksBy st ps a d o st₁ ps₁ a₁ d₁ o₁ (Given v) =
+abbrev pub AsksBy : (st ps a d o st₁ ps₁ a₁ d₁ o₁ : List ℕ) → Result Verdict Refusal → Type 0
+AsksBy st ps a d o st₁ ps₁ a₁ d₁ o₁ (Ok v) =
     Within st ps a d st₁ ps₁ a₁ d₁ × OnlyBelow (l_in st * t_in st) o o₁ × AnswersHeld st ps a d o st₁ ps₁ a₁ d₁ o₁ v
-AsksBy st ps a d o st₁ ps₁ a₁ d₁ o₁ (Refused why) = Unchanged st ps a d st₁ ps₁ a₁ d₁ × (o₁ ≡ o)
+AsksBy st ps a d o st₁ ps₁ a₁ d₁ o₁ (Err why) = Unchanged st ps a d st₁ ps₁ a₁ d₁ × (o₁ ≡ o)
 
-pub record Asks (st ps a d o st₁ ps₁ a₁ d₁ o₁ : List ℕ) (x : Solution) : Type 0 where
+pub record Asks (st ps a d o st₁ ps₁ a₁ d₁ o₁ : List ℕ) (x : Result Verdict Refusal) : Type 0 where
   pub admitted : Admitted st ps (askable st (length a) (length d) (length o)) (asked x)
   pub memory : AsksBy st ps a d o st₁ ps₁ a₁ d₁ o₁ x

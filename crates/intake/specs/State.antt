@@ -1,11 +1,9 @@
 -- Document 02, E1 and E14: the words of an intake's state, and which states an accepted begin and the calls after it can have left.
 -- Assumes nothing.
-use Rattle.std.specs.Prelude.{List, [], ◌∷◌, ◌++◌, ℕ, ◌≤◌, eqb, length, get_or, take, drop}
+use Rattle.std.specs.Prelude.{List, [], ◌∷◌, ◌++◌, ℕ, ◌≤◌, eqb, length, get_or, take, drop, Option, Some, None}
 use Rattle.field.specs.Choice.{pick}
 use Rattle.headers.specs.Row.{Obeys, l_of}
 use Rattle.headers.specs.declared.row.Row.{Row}
-use Rattle.elimination.specs.declared.beneath.solving.Progress.{Progress}
-use Rattle.elimination.specs.declared.beneath.solving.Progress.TheVariants.{Held, Clash}
 use Rattle.intake.specs.Taking.{Placed}
 
 -- ---- what stands where: nine numbers of the row, four more, and 1,024 of the tables. How many packets came is not counted
@@ -52,19 +50,19 @@ words r k t v = front r k t ++ v
 abbrev pub l_in : List ℕ → ℕ
 l_in st = l_of (row_in st)
 
-abbrev pub progress_in : List ℕ → Progress
-progress_in st = pick (eqb (mark_in st) 3) Clash (Held (held_in st))
+abbrev pub progress_in : List ℕ → Option ℕ
+progress_in st = pick (eqb (mark_in st) 3) None (Some (held_in st))
 
 -- the words 11 and 12 of a state that stands at q, with the mark m where no clash came
-abbrev pub held_by : Progress → ℕ
-held_by (Held r) = r
-held_by Clash = 0
+abbrev pub held_by : Option ℕ → ℕ
+held_by (Some r) = r
+held_by None = 0
 
-abbrev pub mark_by : Progress → ℕ → ℕ
-mark_by (Held r) m = m
-mark_by Clash m = 3
+abbrev pub mark_by : Option ℕ → ℕ → ℕ
+mark_by (Some r) m = m
+mark_by None m = 3
 
-abbrev pub noted : Progress → (m : ℕ) → List ℕ
+abbrev pub noted : Option ℕ → (m : ℕ) → List ℕ
 noted q m = held_by q ∷ mark_by q m ∷ []
 
 -- ---- begun

@@ -39,7 +39,9 @@ module _ {L T : ℕ} {S : System ℕ} where
         go : Answer octets L T (in_octets S) → AnswerBytes L T S
         go (contradicted c) = contradicted-bytes (contradiction-bytes L T S c)
         go (settled C a z) =
-            settled-bytes (pack L T C) (solved-bytes L T S small (pack L T C) (block-pack L T C) (solved-same octets L T (same-sym (symbols-pack L T C)) a)) (record { lacks = z })
+            settled-bytes (pack L T C)
+            (solved-bytes L T S small (pack L T C) (block-pack L T C) (solved-same octets L T (same-sym (symbols-pack L T C)) a))
+            (record { lacks = z })
         go (left_open s o z p) = left-open-bytes s (open-bytes L T S small o) (record { lacks = z }) p
 
     -- the shortfall tells a system that is solved from one that is open

@@ -122,5 +122,9 @@ module _ (L T : ℕ) (S : System ℕ) where
       second_block = block-pack L T o.second;
       first_fits = packed-fits o.first o.first_fits;
       second_fits = packed-fits o.second o.second_fits;
-      differ = λ e. o.differ (same-trans (same-sym (symbols-pack L T o.first)) (same-trans (record { at = λ c l t q. ap (λ (x : List ℕ). symbols T x c t) e }) (symbols-pack L T o.second)));
+      differ =
+          λ e.
+          let alike : Same L T (symbols T (pack L T o.first)) (symbols T (pack L T o.second)) =
+          record { at = λ c l t q. ap (λ (x : List ℕ). symbols T x c t) e } in
+          o.differ (same-trans (same-sym (symbols-pack L T o.first)) (same-trans alike (symbols-pack L T o.second)));
     }

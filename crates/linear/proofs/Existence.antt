@@ -43,7 +43,9 @@ module _ (K : Field) where
   }
     where
       second' : (c : Col L) → Dec (k ≡ i) → update i (w k) (update k (w i) w) k c.0 ≡ w i c.0
-      second' c (yes e) = ap (λ (z : ℕ). update i (w k) (update k (w i) w) z c.0) e ∙ ap (λ (v : ℕ → F). v c.0) (update_same i (w k) (update k (w i) w)) ∙ ap (λ (z : ℕ). w z c.0) e
+      second' c (yes e) =
+          ap (λ (z : ℕ). update i (w k) (update k (w i) w) z c.0) e ∙ ap (λ (v : ℕ → F). v c.0) (update_same i (w k) (update k (w i) w))
+          ∙ ap (λ (z : ℕ). w z c.0) e
       second' c (no n) = ap (λ (v : ℕ → F). v c.0) (update_other i (w k) (update k (w i) w) k n ∙ update_same k (w i) w)
 
   scales : (n k : ℕ) → k < n → (x y : F) → y ⊗ x ≡ 𝟙 → (L : ℕ) (w : ℕ → ℕ → F) → Scaled K n k x y (cut L w) (cut L (scale_row k x w))
@@ -96,7 +98,8 @@ module _ (K : Field) where
           same-span-trans K s.same (same-span-trans K
           (swapped_same K (swapped-both K L T M (system M A D) (system M A₁ D₁) (swaps M r i below hi L A) (swaps M r i below hi T D)))
           (same-span-trans K
-          (scaled-same K (scaled-both K L T M (system M A₁ D₁) (system M A₂ D₂) (scales M r below x (A₁ r c) undo L A₁) (scales M r below x (A₁ r c) undo T D₁)))
+          (scaled-same K (scaled-both K L T M (system M A₁ D₁) (system M A₂ D₂)
+          (scales M r below x (A₁ r c) undo L A₁) (scales M r below x (A₁ r c) undo T D₁)))
           (added-same K (added-both K L T M (system M A₂ D₂) (system M A₃ D₃) (adds M r below factor L A₂) (adds M r below factor T D₂)))));
     }
       where
@@ -173,7 +176,8 @@ module _ (K : Field) where
         go further (inr none) = form s (λ i h l c q. zero-of-not-not K (s.coef i c) (λ nz. none i l (h, (c, q, nz))))
 
     reduced-form : Form L T S
-    reduced-form = reduce M 0 (omega arith) (record { coef = S.coef; byte = S.byte; partly = partly_none K L M S.coef; same = same-span-refl K M (equation L T S) })
+    reduced-form =
+        reduce M 0 (omega arith) (record { coef = S.coef; byte = S.byte; partly = partly_none K L M S.coef; same = same-span-refl K M (equation L T S) })
 
   -- Every system has one of the three answers.
   pub answer : (L T : ℕ) → 0 < T → (S : System F) → Answer K L T S

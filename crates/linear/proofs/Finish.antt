@@ -48,7 +48,8 @@ pub held_fits : {M L T : ℕ} {S : System ℕ} {a d : List ℕ} (o : List ℕ) �
 held_fits {M} {L} {T} {S} {a} {d} o h small f = bytes-of-fits L T S small o (fits-follows octets L T h.back (fits-of-bytes L T (stored_system M L T a d) f))
 
 -- and where none fits them, none fits it
-pub held-denied : {M L T : ℕ} {S : System ℕ} {a d : List ℕ} → Holds M L T S a d → Bytes d → ContradictionBytes L T (stored_system M L T a d) → ContradictionBytes L T S
+pub held-denied : {M L T : ℕ} {S : System ℕ} {a d : List ℕ} → Holds M L T S a d → Bytes d → ContradictionBytes L T (stored_system M L T a d)
+    → ContradictionBytes L T S
 held-denied {M} {L} {T} {S} {a} {d} h bd c = record { none = λ C b f. c.none C b (fits C f) }
   where
     fits : (C : List ℕ) → FitsBytes L T S C → FitsBytes L T (stored_system M L T a d) C

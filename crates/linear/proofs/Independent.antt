@@ -61,7 +61,11 @@ module _ (K : Field) where
         rest j = total K r (λ k. d.coef (suc k) ⊗ w (suc k) j)
 
         tail-zero : d.coef zero ≡ 𝟘 → (k : ℕ) → k < r → d.coef (suc k) ≡ 𝟘
-        tail-zero e = ind.only_zero (λ k. d.coef (suc k)) (λ j. sym (zero-add (rest j)) ∙ ap (λ (x : F). x ⊕ rest j) (sym (ap (λ (x : F). x ⊗ w zero j) e ∙ zero-mul K (w zero j))) ∙ d.vanishes j)
+        tail-zero e =
+            ind.only_zero (λ k. d.coef (suc k))
+            (λ j.
+            sym (zero-add (rest j)) ∙ ap (λ (x : F). x ⊕ rest j) (sym (ap (λ (x : F). x ⊗ w zero j) e ∙ zero-mul K (w zero j)))
+            ∙ d.vanishes j)
 
         clash : d.coef zero ≡ 𝟘 → (k : ℕ) → k < suc r → d.coef k ≡ 𝟘
         clash e zero h = e
@@ -191,7 +195,8 @@ module _ (K : Field) where
       go : (t : ℕ) × Basis K M t (cut L A) → s ≤ n + r
       go (t, base) =
           let e : t ≡ r = most-unique (most-of-basis base) a in
-          let h : s ≤ n + t = steinitz K s (n + t) (λ k. cut L B (b.some.place k)) (cut L all) b.some.free (λ k l. inside (b.some.place k) (b.some.below k l)) in
+          let h : s ≤ n + t = steinitz K s (n + t) (λ k. cut L B (b.some.place k)) (cut L all) b.some.free
+          (λ k l. inside (b.some.place k) (b.some.below k l)) in
           omega arith
         where
           chosen : ℕ → ℕ → F

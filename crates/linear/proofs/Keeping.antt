@@ -39,14 +39,18 @@ keeps-trans s u = record { says = same-span-trans octets s.says u.says }
 pub keeps-added : {n L T : ℕ} {a d a₁ d₁ : List ℕ} (i k g : ℕ) → k < n → i ≢ k → RowAdded L i k g a a₁ → RowAdded T i k g d d₁
     → Keeps n L T a d a₁ d₁
 keeps-added {n} {L} {T} {a} {d} {a₁} {d₁} i k g hk ne sa sd = record {
-  says = added-same octets (added-both octets L T n (in_octets (stored_system n L T a d)) (in_octets (stored_system n L T a₁ d₁)) (row-added n i k g hk ne sa) (row-added n i k g hk ne sd));
+  says =
+      added-same octets (added-both octets L T n (in_octets (stored_system n L T a d)) (in_octets (stored_system n L T a₁ d₁))
+      (row-added n i k g hk ne sa) (row-added n i k g hk ne sd));
 }
 
 -- row i was multiplied by x, which y undoes
 pub keeps-scaled : {n L T : ℕ} {a d a₁ d₁ : List ℕ} (i x y : ℕ) → i < n → times y x ≡ 1 → RowTimes L i x a a₁ → RowTimes T i x d d₁
     → Keeps n L T a d a₁ d₁
 keeps-scaled {n} {L} {T} {a} {d} {a₁} {d₁} i x y hi e sa sd = record {
-  says = scaled-same octets (scaled-both octets L T n (in_octets (stored_system n L T a d)) (in_octets (stored_system n L T a₁ d₁)) (row_scaled n i x y hi e sa) (row_scaled n i x y hi e sd));
+  says =
+      scaled-same octets (scaled-both octets L T n (in_octets (stored_system n L T a d)) (in_octets (stored_system n L T a₁ d₁))
+      (row_scaled n i x y hi e sa) (row_scaled n i x y hi e sd));
 }
 
 -- ---- what the stores hold
@@ -54,7 +58,10 @@ keeps-scaled {n} {L} {T} {a} {d} {a₁} {d₁} i x y hi e sa sd = record {
 -- the same equations, in any order
 pub holds-included : {M L T : ℕ} {S : System ℕ} {a d : List ℕ} → Included L T (stored_system M L T a d) S → Included L T S (stored_system M L T a d)
     → Holds M L T S a d
-holds-included {L = L} {T = T} to back = record { to = follows-included octets L T (included-octets to); back = follows-included octets L T (included-octets back) }
+holds-included {L = L} {T = T} to back = record {
+  to = follows-included octets L T (included-octets to);
+  back = follows-included octets L T (included-octets back);
+}
 
 pub holds_kept : {n L T : ℕ} {S : System ℕ} {a d a₁ d₁ : List ℕ} → Holds n L T S a d → Keeps n L T a d a₁ d₁ → Holds n L T S a₁ d₁
 holds_kept h k = record { to = within-trans octets k.says.to h.to; back = within-trans octets h.back k.says.back }

@@ -108,7 +108,8 @@ module _ (K : Field) where
 
   pub kernel : (L n : ℕ) (w : ℕ → ℕ → F) → Kernel L n w
   kernel zero zero w = inr (record { only_zero = λ a v i h. absurd (omega arith) }, omega arith)
-  kernel zero (suc n) w = inl (record { coef = λ _. 𝟙; vanishes = λ c. absurd (let h : c.0 < zero = c.1 in omega arith); place = zero; below = omega arith; other = one-ne-zero })
+  kernel zero (suc n) w =
+      inl (record { coef = λ _. 𝟙; vanishes = λ c. absurd (let h : c.0 < zero = c.1 in omega arith); place = zero; below = omega arith; other = one-ne-zero })
   kernel (suc L) zero w = inr (record { only_zero = λ a v i h. absurd (omega arith) }, omega arith)
   kernel (suc L) (suc n) w = go (λ u m. kernel L m u) (find (λ i. w i zero ≢ 𝟘) (λ i. zero_or_not K (w i zero)) (suc n))
     where
@@ -143,7 +144,10 @@ module _ (K : Field) where
 
       go : Kernel L n (λ i c. delta K c (q i)) → n ≤ L
       go (inr t) = t.1
-      go (inl d) = absurd (d.other (sym (total_ext K n (λ i l. ap (λ (x : F). d.coef i ⊗ x) (same i d.place l d.below)) ∙ total-delta K n d.place d.coef d.below) ∙ d.vanishes (q d.place, below d.place d.below)))
+      go (inl d) =
+          absurd (d.other
+          (sym (total_ext K n (λ i l. ap (λ (x : F). d.coef i ⊗ x) (same i d.place l d.below)) ∙ total-delta K n d.place d.coef d.below)
+          ∙ d.vanishes (q d.place, below d.place d.below)))
 
   -- and fewer, if there is another one
   pub pigeon-more : (n L c : ℕ) (q : ℕ → ℕ) → ((k : ℕ) → k < n → q k < L) → ((i k : ℕ) → i < n → k < n → q i ≡ q k → i ≡ k)

@@ -39,11 +39,20 @@ module _ (K : Field) where
 
     -- rows from r on change places
     pub partly-swap : {B : ℕ → ℕ → F} {i : ℕ} → r ≤ i → Swapped K M r i (cut L A) (cut L B) → Partly K L M B r
-    partly-swap {B} {i} hi s = record { enough = p.enough; pivot = p.pivot; pivot-below = p.pivot-below; unit = λ m k h l. go m k h l (ℕ_discrete m r) (ℕ_discrete m i) }
+    partly-swap {B} {i} hi s = record {
+      enough = p.enough;
+      pivot = p.pivot;
+      pivot-below = p.pivot-below;
+      unit = λ m k h l. go m k h l (ℕ_discrete m r) (ℕ_discrete m i);
+    }
       where
         go : (m k : ℕ) → m < M → k < r → Dec (m ≡ r) → Dec (m ≡ i) → B m (p.pivot k) ≡ delta K m k
-        go m k h l (yes e) d = ap (λ (z : ℕ). B z (p.pivot k)) e ∙ s.first (p.pivot k, p.pivot-below k l) ∙ zero-at i k s.second_below l hi ∙ sym (delta-other K m k (λ q. omega arith))
-        go m k h l (no n) (yes e) = ap (λ (z : ℕ). B z (p.pivot k)) e ∙ s.second (p.pivot k, p.pivot-below k l) ∙ zero-at r k s.first_below l (omega arith) ∙ sym (delta-other K m k (λ q. omega arith))
+        go m k h l (yes e) d =
+            ap (λ (z : ℕ). B z (p.pivot k)) e ∙ s.first (p.pivot k, p.pivot-below k l) ∙ zero-at i k s.second_below l hi
+            ∙ sym (delta-other K m k (λ q. omega arith))
+        go m k h l (no n) (yes e) =
+            ap (λ (z : ℕ). B z (p.pivot k)) e ∙ s.second (p.pivot k, p.pivot-below k l) ∙ zero-at r k s.first_below l (omega arith)
+            ∙ sym (delta-other K m k (λ q. omega arith))
         go m k h l (no n) (no o) = s.others m h n o (p.pivot k, p.pivot-below k l) ∙ p.unit m k h l
 
     pub partly-scale : {B : ℕ → ℕ → F} {x y : F} → Scaled K M r x y (cut L A) (cut L B) → Partly K L M B r
@@ -51,7 +60,8 @@ module _ (K : Field) where
       where
         go : (m k : ℕ) → m < M → k < r → Dec (m ≡ r) → B m (p.pivot k) ≡ delta K m k
         go m k h l (yes e) =
-            ap (λ (z : ℕ). B z (p.pivot k)) e ∙ s.row (p.pivot k, p.pivot-below k l) ∙ ap (λ (z : F). x ⊗ z) (zero-at r k s.row_below l (omega arith)) ∙ mul-zero K x ∙ sym (delta-other K m k (λ q. omega arith))
+            ap (λ (z : ℕ). B z (p.pivot k)) e ∙ s.row (p.pivot k, p.pivot-below k l) ∙ ap (λ (z : F). x ⊗ z) (zero-at r k s.row_below l (omega arith))
+            ∙ mul-zero K x ∙ sym (delta-other K m k (λ q. omega arith))
         go m k h l (no n) = s.others m h n (p.pivot k, p.pivot-below k l) ∙ p.unit m k h l
 
     -- row r is 1 in column c, and goes off all the others there: it has a pivot now
@@ -79,9 +89,11 @@ module _ (K : Field) where
         unit' : (i k : ℕ) → i < M → Dec (i ≡ r) → Dec (k ≡ r) → k < suc r → B i (pivot' k) ≡ delta K i k
         unit' i k h (yes e) (yes f) l = ap₂ B e (new k f) ∙ s.row_kept (c, hc) ∙ one ∙ sym (ap₂ (delta K) e f ∙ delta-self K r)
         unit' i k h (yes e) (no n) l =
-            ap₂ B e (old k n) ∙ s.row_kept (p.pivot k, p.pivot-below k (omega arith)) ∙ p.unit r k s.row_below (omega arith) ∙ ap (λ (z : ℕ). delta K z k) (sym e)
+            ap₂ B e (old k n) ∙ s.row_kept (p.pivot k, p.pivot-below k (omega arith)) ∙ p.unit r k s.row_below (omega arith)
+            ∙ ap (λ (z : ℕ). delta K z k) (sym e)
         unit' i k h (no n) (yes f) l =
-            ap (B i) (new k f) ∙ s.others i h n (c, hc) ∙ ap (λ (z : F). A i c ⊕ A i c ⊗ z) one ∙ ap (λ (z : F). A i c ⊕ z) (mul-one K (A i c)) ∙ add-self (A i c) ∙ sym (delta-other K i k (λ g. n (g ∙ f)))
+            ap (B i) (new k f) ∙ s.others i h n (c, hc) ∙ ap (λ (z : F). A i c ⊕ A i c ⊗ z) one ∙ ap (λ (z : F). A i c ⊕ z) (mul-one K (A i c))
+            ∙ add-self (A i c) ∙ sym (delta-other K i k (λ g. n (g ∙ f)))
         unit' i k h (no n) (no m) l =
             ap (B i) (old k m) ∙ s.others i h n (p.pivot k, p.pivot-below k (omega arith))
             ∙ ap (λ (z : F). A i (p.pivot k) ⊕ A i c ⊗ z) (zero-at r k s.row_below (omega arith) (omega arith))

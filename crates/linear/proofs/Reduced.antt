@@ -103,11 +103,13 @@ module _ (K : Field) where
         where
           go : (i : ℕ) × (i < r) × (pivot i ≡ c) → R.coef k c ≡ delta K c (pivot k)
           go (i, hi, e) =
-              ap (R.coef k) (sym e) ∙ unit k i h hi ∙ sym (delta-apart K pivot i k (pivot-once i k hi h) ∙ delta-sym K i k) ∙ ap (λ (x : ℕ). delta K x (pivot k)) e
+              ap (R.coef k) (sym e) ∙ unit k i h hi ∙ sym (delta-apart K pivot i k (pivot-once i k hi h) ∙ delta-sym K i k)
+              ∙ ap (λ (x : ℕ). delta K x (pivot k)) e
 
       forced : (D : Symbols F) → Fits K L T R D → (k : ℕ) → k < r → (t : ℕ) → t < T → D (pivot k) t ≡ R.byte k t
       forced D f k h t q =
-          sym (total_ext K L (λ c l. ap (λ (x : F). x ⊗ D c t) (unit_row k c h l) ∙ mul_comm (delta K c (pivot k)) (D c t)) ∙ total-delta K L (pivot k) (λ c. D c t) (pivot-below k h))
+          sym (total_ext K L (λ c l. ap (λ (x : F). x ⊗ D c t) (unit_row k c h l) ∙ mul_comm (delta K c (pivot k)) (D c t))
+          ∙ total-delta K L (pivot k) (λ c. D c t) (pivot-below k h))
           ∙ f.meets k (let e : r ≤ R.count = red.enough in omega arith) t q
 
       pub fits-once : (C D : Symbols F) → Fits K L T R C → Fits K L T R D → Same L T C D
@@ -133,7 +135,8 @@ module _ (K : Field) where
       null-at : null c ≡ 𝟙
       unfolding null spread-out
       null-at =
-          ap₂ ◌⊕◌ (delta-self K c) (total-vanish K r (λ k h. ap (λ (x : F). x ⊗ R.coef k c) (delta-other K c (pivot k) (λ e. free k h (sym e))) ∙ zero-mul K (R.coef k c)))
+          ap₂ ◌⊕◌ (delta-self K c)
+          (total-vanish K r (λ k h. ap (λ (x : F). x ⊗ R.coef k c) (delta-other K c (pivot k) (λ e. free k h (sym e))) ∙ zero-mul K (R.coef k c)))
           ∙ add-zero K 𝟙
 
       pub open-of-free : (C : Symbols F) → Fits K L T R C → 0 < T → Open K L T R
@@ -206,7 +209,13 @@ module _ (K : Field) where
       two-fit h pos = go (free-or-all L T R r red)
         where
           back-again : Open K L T R → Open K L T S
-          back-again o = record { first = o.first; second = o.second; first_fits = fits-follows K L T back o.first_fits; second_fits = fits-follows K L T back o.second_fits; differ = o.differ }
+          back-again o = record {
+            first = o.first;
+            second = o.second;
+            first_fits = fits-follows K L T back o.first_fits;
+            second_fits = fits-follows K L T back o.second_fits;
+            differ = o.differ;
+          }
 
           go : ((c : ℕ) × (c < L) × Free L T R r red c) ⊎ ((c : ℕ) → c < L → (k : ℕ) × (k < r) × (red.pivot k ≡ c)) → Open K L T S
           go (inl (c, l, free)) = back-again (open-of-free L T R r red c l free (solution L T R r red) (solution-fits L T R r red clean) pos)

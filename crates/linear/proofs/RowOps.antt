@@ -65,7 +65,17 @@ module _ (K : Field) where
         go (no ne) (no nf) = span-eq K (a.others m h ne nf) (span-member K n w m h)
 
     pub swapped_same : {n i k : ℕ} {w u : ℕ → J → F} → Swapped K n i k w u → SameSpan K n w u
-    swapped_same a = record { to = swapped-to a; back = swapped-to (record { first_below = a.first_below; second_below = a.second_below; first = λ j. sym (a.second j); second = λ j. sym (a.first j); others = λ m h ne nf j. sym (a.others m h ne nf j) }) }
+    swapped_same a = record {
+      to = swapped-to a;
+      back =
+          swapped-to (record {
+            first_below = a.first_below;
+            second_below = a.second_below;
+            first = λ j. sym (a.second j);
+            second = λ j. sym (a.first j);
+            others = λ m h ne nf j. sym (a.others m h ne nf j);
+          });
+    }
 
   -- A row operation on the coefficients and the same one on the bytes is one on the equations.
   module _ (L T n : ℕ) (S R : System F) where

@@ -56,7 +56,12 @@ row-added-once {w} i k {xs} b s = written_as s (λ c h. ap (plus (cell w xs i c)
 -- ---- nothing changed past a place
 
 pub only : {n : ℕ} {xs ys : List ℕ} → length ys ≡ length xs → ((k : ℕ) → n ≤ k → get_or ys k 0 ≡ get_or xs k 0) → OnlyBelow n xs ys
-only {n} {xs} {ys} l h = record { size = l; part = λ k b. ap (λ (x : ℕ). get_or ys x 0) (zero-add k); low = λ k b. absurd (omega arith); high = λ k b. h k (omega arith) }
+only {n} {xs} {ys} l h = record {
+  size = l;
+  part = λ k b. ap (λ (x : ℕ). get_or ys x 0) (zero-add k);
+  low = λ k b. absurd (omega arith);
+  high = λ k b. h k (omega arith);
+}
 
 -- and so it is with every place past it
 pub only-past : {n : ℕ} {xs ys : List ℕ} → OnlyBelow n xs ys → (k : ℕ) → n ≤ k → get_or ys k 0 ≡ get_or xs k 0
@@ -102,7 +107,8 @@ module _ {w : ℕ} {xs ys : List ℕ} where
           (oct-times f (cell w xs k c) ∙ ap (λ (x : Octet). x ⊗ oct (cell w xs k c)) (sym (ap factor e ∙ update_same i (oct f) (λ _. 𝟘))))
       go j c l (no m) =
           ap oct (row_other i s j m c l)
-          ∙ sym (ap (λ (x : Octet). oct (cell w xs j c) ⊕ x) (ap (λ (x : Octet). x ⊗ oct (cell w xs k c)) (update_other i (oct f) (λ _. 𝟘) j m) ∙ zero-mul octets (oct (cell w xs k c)))
+          ∙ sym (ap (λ (x : Octet). oct (cell w xs j c) ⊕ x)
+          (ap (λ (x : Octet). x ⊗ oct (cell w xs k c)) (update_other i (oct f) (λ _. 𝟘) j m) ∙ zero-mul octets (oct (cell w xs k c)))
           ∙ add-zero octets (oct (cell w xs j c)))
 
   pub row_scaled : (n i f g : ℕ) → i < n → times g f ≡ 1 → RowTimes w i f xs ys

@@ -41,7 +41,8 @@ module _ (K : Field) where
   pub total-swap : (n m : ℕ) (f : ℕ → ℕ → F) → total K n (λ i. total K m (λ j. f i j)) ≡ total K m (λ j. total K n (λ i. f i j))
   unfolding total
   total-swap zero m f = sym (total-vanish m (λ j l. refl))
-  total-swap (suc n) m f = ap (λ (x : F). total K m (f zero) ⊕ x) (total-swap n m (λ i. f (suc i))) ∙ sym (total-add m (f zero) (λ j. total K n (λ i. f (suc i) j)))
+  total-swap (suc n) m f =
+      ap (λ (x : F). total K m (f zero) ⊕ x) (total-swap n m (λ i. f (suc i))) ∙ sym (total-add m (f zero) (λ j. total K n (λ i. f (suc i) j)))
 
   -- the term at p, and the others
   pub total-skip : (n p : ℕ) (f : ℕ → F) → p < suc n → total K (suc n) f ≡ f p ⊕ total K n (λ i. f (skip p i))

@@ -2,10 +2,9 @@
 // Products, quotients, powers and multiply-adds of single octets, through the tables. The contracts are those of `field::octet`, to the letter.
 ghost use Rattle.std.specs.Prelude.{◌≡◌};
 ghost use Rattle.field.specs.Octet.{plus, times};
-ghost use Rattle.field.specs.Answer.{divided, octet_outcome, raised};
+ghost use Rattle.field.specs.Answer.{divided, outcome, raised};
 
 use crate::beneath::tables;
-use field::octet::Answer;
 use field::refusal::Refusal;
 
 pub fn mul(a: u8, b: u8) -> u8
@@ -18,29 +17,29 @@ pub fn mul(a: u8, b: u8) -> u8
     if b == 0 {
         return 0;
     }
-    tables::oct_exp(tables::oct_log(a) as usize + tables::oct_log(b) as usize)
+    tables::oct_exp(usize::from(tables::oct_log(a)) + usize::from(tables::oct_log(b)))
 }
 
-pub fn div(a: u8, by: u8) -> Answer
-    ensures { octet_outcome result ≡ divided a by }
+pub fn div(a: u8, by: u8) -> Result<u8, Refusal>
+    ensures { outcome result ≡ divided a by }
 {
     if by == 0 {
-        return Answer::Refused(Refusal::DivisorZero);
+        return Err(Refusal::DivisorZero);
     }
     if a == 0 {
-        return Answer::Octet(0);
+        return Ok(0);
     }
-    Answer::Octet(tables::oct_exp(255 + tables::oct_log(a) as usize - tables::oct_log(by) as usize))
+    Ok(tables::oct_exp(255 + usize::from(tables::oct_log(a)) - usize::from(tables::oct_log(by))))
 }
 
 // alpha to the power i
-pub fn alpha(i: usize) -> Answer
-    ensures { octet_outcome result ≡ raised i }
+pub fn alpha(i: usize) -> Result<u8, Refusal>
+    ensures { outcome result ≡ raised i }
 {
     if i < 256 {
-        Answer::Octet(tables::oct_exp(i))
+        Ok(tables::oct_exp(i))
     } else {
-        Answer::Refused(Refusal::OutOfRange)
+        Err(Refusal::OutOfRange)
     }
 }
 

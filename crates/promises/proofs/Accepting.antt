@@ -8,16 +8,14 @@ use Prim.Native.Nat.{ℕ, ◌*◌, ◌≤◌, ◌<◌}
 use borrow.Author.Tests.{le-ltb, lt-leb, eq-eqb}
 use lib.Dec.{eqb, leb}
 use lib.ListN.{length}
-use Rattle.field.specs.Answer.{Outcome, given, unless, done, code_of}
-use Rattle.field.specs.declared.refusal.Answer.{Answer}
-use Rattle.field.specs.declared.refusal.Answer.TheVariants as Plains
+use Rattle.std.specs.Prelude.{Result, Ok, Err}
+use Rattle.field.specs.declared.refusal.Refusal.{Refusal}
+use Rattle.field.specs.Answer.{Outcome, given, unless, outcome, code_of}
 use Rattle.field.proofs.Answers.{given-not-refused}
-use Rattle.field.proofs.Refusals.{done-only}
+use Rattle.field.proofs.Answers.{outcome-only}
 use Rattle.headers.specs.Row.{l_of}
 use Rattle.headers.specs.declared.row.Row.{Row}
 use Rattle.elimination.specs.declared.verdict.Verdict.{Verdict}
-use Rattle.solver.specs.declared.solver.Solution.{Solution}
-use Rattle.solver.specs.declared.solver.Solution.TheVariants.{Given, Refused}
 use Rattle.intake.specs.State.{Begun, t_in, l_in}
 use Rattle.intake.specs.Night.{Stretch, Holding, stores_room, takable, askable, asked}
 use Rattle.promises.specs.Nights.{Memory, Event, packet, question, Happens, Night, stretch, since_begin}
@@ -43,25 +41,26 @@ module _ {z : Stretch} {st ps a d : List ℕ} (h : Holding z st ps a d) where
         le-ltb o (l_in st * t_in st) q,
       )
 
-answered : (x : Solution) → asked x ≡ given tt → (w : Verdict) × (x ≡ Given w)
-answered (Given w) e = (w, refl)
-answered (Refused why) e = absurd (given-not-refused tt (code_of why) (sym e))
+answered : (x : Result Verdict Refusal) → asked x ≡ given tt → (w : Verdict) × (x ≡ Ok w)
+answered (Ok w) e = (w, refl)
+answered (Err why) e = absurd (given-not-refused tt (code_of why) (sym e))
 
 module _ (xs : List Event) (m n l : Memory) (z : Stretch) (u : ¬ Begun m.state m.pivots) (night : Night xs m n) (is : since_begin xs ≡ stretch z) where
   -- a packet is refused by 9 for its ESI, by 10 for the size of its symbol, and for nothing else: how many came before it is not asked
-  pub packet-told : (e : ℕ) (s : List ℕ) (x : Answer) → Happens (packet e s x) n l
-      → done x ≡ unless (leb 16777216 e) 9 (unless (not (eqb (length s) z.t)) 10 (given tt))
+  pub packet-told : (e : ℕ) (s : List ℕ) (x : Result (Unit {0}) Refusal) → Happens (packet e s x) n l
+      → outcome x ≡ unless (leb 16777216 e) 9 (unless (not (eqb (length s) z.t)) 10 (given tt))
   packet-told e s x c =
       let h = night-held xs m n z u night is in
-      begun-given _ _ _ (done x) c.admitted h.begun ∙ takable-is h e (length s)
+      begun-given _ _ _ (outcome x) c.admitted h.begun ∙ takable-is h e (length s)
 
   -- so it is accepted: an ESI below 2^24, and a symbol of T octets
-  pub packet-accepted : (e : ℕ) (s : List ℕ) (x : Answer) → e < 16777216 → length s ≡ z.t → Happens (packet e s x) n l → x ≡ Plains.Done
+  pub packet-accepted : (e : ℕ) (s : List ℕ) (x : Result (Unit {0}) Refusal) → e < 16777216 → length s ≡ z.t → Happens (packet e s x) n l → x ≡ Ok tt
   packet-accepted e s x small size c =
-      done-only x Plains.Done (packet-told e s x c ∙ simp (lt-leb 16777216 e small, eq-eqb (length s) z.t size))
+      outcome-only x (Ok tt) (packet-told e s x c ∙ simp (lt-leb 16777216 e small, eq-eqb (length s) z.t size))
 
   -- a question is answered
-  pub question-answered : (o o₁ : List ℕ) (x : Solution) → l_of z.row * z.t ≤ length o → Happens (question o o₁ x) n l → (w : Verdict) × (x ≡ Given w)
+  pub question-answered : (o o₁ : List ℕ) (x : Result Verdict Refusal) → l_of z.row * z.t ≤ length o → Happens (question o o₁ x) n l
+      → (w : Verdict) × (x ≡ Ok w)
   question-answered o o₁ x out c =
       let h = night-held xs m n z u night is in
       answered x (begun-given _ _ _ (asked x) c.admitted h.begun ∙ askable-is h (length o) out)

@@ -7,6 +7,7 @@ use mathlib.Core.List.{List}
 use Prim.Native.Nat.{ℕ, ◌+◌, ◌*◌, ◌≤◌, ◌<◌}
 use native.Mathlib.Omega.{arith}
 use lib.ListN.{get_or}
+use Rattle.std.specs.Prelude.{Ok}
 use Rattle.field.proofs.Laws.{times-lt}
 use Rattle.field.proofs.Sums.{sum_lt}
 use Rattle.headers.specs.Row.{l_of}
@@ -21,7 +22,6 @@ use Rattle.elimination.specs.declared.verdict.Verdict.{Verdict}
 use Rattle.elimination.specs.declared.verdict.Verdict.TheVariants.{Solved, Contradiction, Open}
 use Rattle.solver.specs.Order.{Sendable}
 use Rattle.solver.specs.System.{Admits, system_of}
-use Rattle.solver.specs.declared.solver.Solution.TheVariants.{Given}
 use Rattle.solver.proofs.Admitted.{admits}
 use Rattle.promises.specs.Calls.{Call, Judged, Fitting, Single, Several, MostRows, set_in}
 use Rattle.promises.proofs.Fitting.{fitting-fits, fits-fitting}
@@ -42,20 +42,21 @@ single-not-several a b = b.differ (a.only b.first b.first_fits ∙ sym (a.only b
 
 -- the symbols of a system that a set fits are of octets
 pub fits-octets : {L T : ℕ} {S : System ℕ} {C : List ℕ} → FitsBytes L T S C → OctetSymbols T S
-fits-octets {L} {T} {S} {C} f = record { below = λ i h b l. subst (λ (x : ℕ). x < 256) (f.meets i h b l) (sum_lt L (λ c _. times-lt (S.coef i c) (cell T C c b))) }
+fits-octets {L} {T} {S} {C} f =
+    record { below = λ i h b l. subst (λ (x : ℕ). x < 256) (f.meets i h b l) (sum_lt L (λ c _. times-lt (S.coef i c) (cell T C c b))) }
 
 module _ {v : List ℕ} {r : Row} {k t : ℕ} {es xs o o₁ : List ℕ} where
   -- what is known of a call that was not refused
-  pub accepted : (w : Verdict) (c : Call r v k t es xs o o₁ (Given w))
+  pub accepted : (w : Verdict) (c : Call r v k t es xs o o₁ (Ok w))
       → Admits r v k t es xs c.rows c.values o
   accepted w c = admits r v k t es xs c.rows c.values o c.contract.0
 
   -- its row, tables, K and ESIs
-  pub sound : (w : Verdict) → Call r v k t es xs o o₁ (Given w) → Sendable r v k es
+  pub sound : (w : Verdict) → Call r v k t es xs o o₁ (Ok w) → Sendable r v k es
   sound w c = (accepted w c).fillable.sendable
 
   -- it answers by the definition
-  pub call-judged : {w : Verdict} → Call r v k t es xs o o₁ (Given w) → Judged r v k t es xs o o₁ w
+  pub call-judged : {w : Verdict} → Call r v k t es xs o o₁ (Ok w) → Judged r v k t es xs o o₁ w
   call-judged {w} c =
       let a = accepted w c in
       let s = sound w c in
@@ -167,42 +168,42 @@ module _ {v : List ℕ} {r : Row} {k t : ℕ} {es xs o o₁ : List ℕ} where
 
   -- ---- of a call
 
-  pub solved-single : Call r v k t es xs o o₁ (Given Solved) → Single v r k t es xs (set_in r t o₁)
+  pub solved-single : Call r v k t es xs o o₁ (Ok Solved) → Single v r k t es xs (set_in r t o₁)
   solved-single c = judged-solved-single (call-judged c)
 
-  pub contradiction-none : Call r v k t es xs o o₁ (Given Contradiction) → (C : List ℕ) → ¬ Fitting v r k t es xs C
+  pub contradiction-none : Call r v k t es xs o o₁ (Ok Contradiction) → (C : List ℕ) → ¬ Fitting v r k t es xs C
   contradiction-none c = judged-contradiction-none (call-judged c)
 
-  pub open-several : {s : ℕ} → Call r v k t es xs o o₁ (Given (Open s)) → Several v r k t es xs
+  pub open-several : {s : ℕ} → Call r v k t es xs o o₁ (Ok (Open s)) → Several v r k t es xs
   open-several c = judged-open-several (call-judged c)
 
-  pub solved-exactly : (w : Verdict) → Call r v k t es xs o o₁ (Given w) → (w ≡ Solved) ↔ ((C : List ℕ) × Single v r k t es xs C)
+  pub solved-exactly : (w : Verdict) → Call r v k t es xs o o₁ (Ok w) → (w ≡ Solved) ↔ ((C : List ℕ) × Single v r k t es xs C)
   solved-exactly w c = judged-solved-exactly w (call-judged c)
 
-  pub contradiction-exactly : (w : Verdict) → Call r v k t es xs o o₁ (Given w) → (w ≡ Contradiction) ↔ ((C : List ℕ) → ¬ Fitting v r k t es xs C)
+  pub contradiction-exactly : (w : Verdict) → Call r v k t es xs o o₁ (Ok w) → (w ≡ Contradiction) ↔ ((C : List ℕ) → ¬ Fitting v r k t es xs C)
   contradiction-exactly w c = judged-contradiction-exactly w (call-judged c)
 
-  pub open-exactly : (w : Verdict) → Call r v k t es xs o o₁ (Given w) → ((s : ℕ) × (w ≡ Open s)) ↔ Several v r k t es xs
+  pub open-exactly : (w : Verdict) → Call r v k t es xs o o₁ (Ok w) → ((s : ℕ) × (w ≡ Open s)) ↔ Several v r k t es xs
   open-exactly w c = judged-open-exactly w (call-judged c)
 
-  pub open-otherwise : (w : Verdict) → Call r v k t es xs o o₁ (Given w) → ((C : List ℕ) → ¬ Single v r k t es xs C) → ¬ ((C : List ℕ) → ¬ Fitting v r k t es xs C)
+  pub open-otherwise : (w : Verdict) → Call r v k t es xs o o₁ (Ok w) → ((C : List ℕ) → ¬ Single v r k t es xs C) → ¬ ((C : List ℕ) → ¬ Fitting v r k t es xs C)
       → (s : ℕ) × (w ≡ Open s)
   open-otherwise w c = judged-open-otherwise w (call-judged c)
 
-  pub solved-past : Call r v k t es xs o o₁ (Given Solved) → (x : ℕ) → l_of r * t ≤ x → get_or o₁ x 0 ≡ get_or o x 0
+  pub solved-past : Call r v k t es xs o o₁ (Ok Solved) → (x : ℕ) → l_of r * t ≤ x → get_or o₁ x 0 ≡ get_or o x 0
   solved-past c = judged-solved-past (call-judged c)
 
-  pub unsolved-out : (w : Verdict) → Call r v k t es xs o o₁ (Given w) → w ≢ Solved → o₁ ≡ o
+  pub unsolved-out : (w : Verdict) → Call r v k t es xs o o₁ (Ok w) → w ≢ Solved → o₁ ≡ o
   unsolved-out w c = judged-unsolved-out w (call-judged c)
 
-  pub shortfall-exactly : {s : ℕ} → Call r v k t es xs o o₁ (Given (Open s)) → (n : ℕ) → (s + n ≡ l_of r) ↔ MostRows v r k es n
+  pub shortfall-exactly : {s : ℕ} → Call r v k t es xs o o₁ (Ok (Open s)) → (n : ℕ) → (s + n ≡ l_of r) ↔ MostRows v r k es n
   shortfall-exactly c = judged-shortfall-exactly (call-judged c)
 
-  pub shortfall-positive : {s : ℕ} → Call r v k t es xs o o₁ (Given (Open s)) → 0 < s
+  pub shortfall-positive : {s : ℕ} → Call r v k t es xs o o₁ (Ok (Open s)) → 0 < s
   shortfall-positive c = judged-shortfall-positive (call-judged c)
 
-  pub solved-shortfall : Call r v k t es xs o o₁ (Given Solved) → ShortfallBytes (l_of r) t (system_of r v k t es xs) 0
+  pub solved-shortfall : Call r v k t es xs o o₁ (Ok Solved) → ShortfallBytes (l_of r) t (system_of r v k t es xs) 0
   solved-shortfall c = judged-solved-shortfall (call-judged c)
 
-  pub solved-rows : Call r v k t es xs o o₁ (Given Solved) → MostRows v r k es (l_of r)
+  pub solved-rows : Call r v k t es xs o o₁ (Ok Solved) → MostRows v r k es (l_of r)
   solved-rows c = judged-solved-rows (call-judged c)

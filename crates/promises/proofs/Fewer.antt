@@ -7,6 +7,7 @@ use Prim.Native.Nat.{ℕ, ◌+◌, ◌*◌, ◌≤◌, ◌<◌}
 use native.Mathlib.Decide.{dec_lt}
 use native.Mathlib.Omega.{arith}
 use lib.ListN.{length, get_or, replicate, length-replicate, get_or-replicate, get_or-eq_default}
+use Rattle.std.specs.Prelude.{Ok}
 use Rattle.field.specs.Octet.{times}
 use Rattle.field.proofs.Laws.{times_zero}
 use Rattle.field.proofs.Sums.{sum-zero}
@@ -19,7 +20,6 @@ use Rattle.encoding.specs.Encoded.{combined}
 use Rattle.elimination.specs.declared.verdict.Verdict.{Verdict}
 use Rattle.elimination.specs.declared.verdict.Verdict.TheVariants.{Solved, Contradiction, Open}
 use Rattle.solver.specs.System.{equations}
-use Rattle.solver.specs.declared.solver.Solution.TheVariants.{Given}
 use Rattle.promises.specs.Calls.{Call, Judged, Fitting, MostRows}
 use Rattle.promises.proofs.Exactly.{call-judged, judged-contradiction-none, judged-solved-rows}
 
@@ -48,13 +48,13 @@ module _ {v : List ℕ} {r : Row} {k t : ℕ} {es xs o o₁ : List ℕ} where
 
   -- ---- of a call
 
-  pub solved-takes : Call r v k t es xs o o₁ (Given Solved) → k ≤ length es
+  pub solved-takes : Call r v k t es xs o o₁ (Ok Solved) → k ≤ length es
   solved-takes c = judged-solved-takes (call-judged c)
 
-  pub fewer-never-solved : length es < k → (w : Verdict) → Call r v k t es xs o o₁ (Given w) → w ≢ Solved
+  pub fewer-never-solved : length es < k → (w : Verdict) → Call r v k t es xs o o₁ (Ok w) → w ≢ Solved
   fewer-never-solved h w c = judged-fewer-never-solved h w (call-judged c)
 
-  pub open-takes : {s : ℕ} → Call r v k t es xs o o₁ (Given (Open s)) → k ≤ s + length es
+  pub open-takes : {s : ℕ} → Call r v k t es xs o o₁ (Ok (Open s)) → k ≤ s + length es
   open-takes c = judged-open-takes (call-judged c)
 
 -- ---- no arrivals
@@ -91,5 +91,5 @@ judged-none-open Solved c = absurd (let h = judged-solved-takes c in omega (arit
 judged-none-open {v} {r} {k} {t} {xs} Contradiction c = absurd (judged-contradiction-none c (nothing (l_of r * t)) (zero-fits v r k t xs))
 judged-none-open (Open s) c = (s, refl, (let h = judged-open-takes c in omega arith))
 
-pub none_open : {v : List ℕ} {r : Row} {k t : ℕ} {xs o o₁ : List ℕ} (w : Verdict) → Call r v k t [] xs o o₁ (Given w) → (s : ℕ) × (w ≡ Open s) × (k ≤ s)
+pub none_open : {v : List ℕ} {r : Row} {k t : ℕ} {xs o o₁ : List ℕ} (w : Verdict) → Call r v k t [] xs o o₁ (Ok w) → (s : ℕ) × (w ≡ Open s) × (k ≤ s)
 none_open w c = judged-none-open w (call-judged c)

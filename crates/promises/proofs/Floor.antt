@@ -9,6 +9,7 @@ use Prim.Native.Nat.{ℕ, zero, suc, ◌+◌, ◌≤◌, ◌<◌}
 use native.Mathlib.Decide.{ℕ_discrete}
 use native.Mathlib.Omega.{arith}
 use lib.ListN.{length, get_or}
+use Rattle.std.specs.Prelude.{Ok}
 use Rattle.headers.specs.Row.{l_of}
 use Rattle.headers.specs.declared.row.Row.{Row}
 use Rattle.linear.specs.Bytes.{ShortfallBytes}
@@ -16,7 +17,6 @@ use Rattle.linear.proofs.Joined.{included-then, shortfall-floor, shortfall-stays
 use Rattle.elimination.specs.declared.verdict.Verdict.{Verdict}
 use Rattle.elimination.specs.declared.verdict.Verdict.TheVariants.{Solved, Contradiction, Open}
 use Rattle.solver.specs.System.{arrival_rows, system_of}
-use Rattle.solver.specs.declared.solver.Solution.TheVariants.{Given}
 use Rattle.promises.specs.Calls.{Call, Judged, Lacks, SameRow, RowsAmong, SameRows, Depends}
 use Rattle.promises.proofs.Exactly.{call-judged, open-not-solved, judged-solved-shortfall, judged-shortfall-positive}
 use Rattle.promises.proofs.SentRows.{rows_self, rows_then, rows-first, rows-included, rows-parted, rows-joined}
@@ -133,14 +133,14 @@ module _ {v : List ℕ} {r : Row} {k t : ℕ} {es xs o o₁ p p₁ : List ℕ} {
 
 -- ---- of a call
 
-module _ {v : List ℕ} {r : Row} {k t : ℕ} {es xs o o₁ : List ℕ} {w : Verdict} (m : ℕ) (c : Call r v k t es xs o o₁ (Given w)) (a : Lacks w m) where
+module _ {v : List ℕ} {r : Row} {k t : ℕ} {es xs o o₁ : List ℕ} {w : Verdict} (m : ℕ) (c : Call r v k t es xs o o₁ (Ok w)) (a : Lacks w m) where
   pub lacks-nothing : (m ≡ 0) ↔ (w ≡ Solved)
   lacks-nothing = judged-lacks-nothing m (call-judged c) a
 
 -- ---- of two calls
 
 module _ {v : List ℕ} {r : Row} {k t : ℕ} {es xs fs ys o o₁ p p₁ : List ℕ} {w u : Verdict} (m n : ℕ)
-    (c : Call r v k t es xs o o₁ (Given w)) (d : Call r v k t fs ys p p₁ (Given u)) (a : Lacks w m) (b : Lacks u n) where
+    (c : Call r v k t es xs o o₁ (Ok w)) (d : Call r v k t fs ys p p₁ (Ok u)) (a : Lacks w m) (b : Lacks u n) where
   pub floor : (gs : List ℕ) → RowsAmong v r k fs (es ++ gs) → m ≤ length gs + n
   floor = judged-floor m n (call-judged c) (call-judged d) a b
 
@@ -159,28 +159,28 @@ module _ {v : List ℕ} {r : Row} {k t : ℕ} {es xs fs ys o o₁ p p₁ : List 
   pub rows-alone : SameRows v r k es fs → m ≡ n
   rows-alone = judged-rows-alone m n (call-judged c) (call-judged d) a b
 
-module _ {v : List ℕ} {r : Row} {k t : ℕ} {es xs fs ys o o₁ p p₁ : List ℕ} {m : ℕ} (gs : List ℕ) (c : Call r v k t es xs o o₁ (Given (Open m))) where
-  pub solved-floor : RowsAmong v r k fs (es ++ gs) → Call r v k t fs ys p p₁ (Given Solved) → m ≤ length gs
+module _ {v : List ℕ} {r : Row} {k t : ℕ} {es xs fs ys o o₁ p p₁ : List ℕ} {m : ℕ} (gs : List ℕ) (c : Call r v k t es xs o o₁ (Ok (Open m))) where
+  pub solved-floor : RowsAmong v r k fs (es ++ gs) → Call r v k t fs ys p p₁ (Ok Solved) → m ≤ length gs
   solved-floor f d = judged-solved-floor gs (call-judged c) f (call-judged d)
 
-  pub not-before : RowsAmong v r k fs (es ++ gs) → length gs < m → (u : Verdict) → Call r v k t fs ys p p₁ (Given u) → u ≢ Solved
+  pub not-before : RowsAmong v r k fs (es ++ gs) → length gs < m → (u : Verdict) → Call r v k t fs ys p p₁ (Ok u) → u ≢ Solved
   not-before f l u d = judged-not-before gs (call-judged c) f l u (call-judged d)
 
 module _ {v : List ℕ} {r : Row} {k t : ℕ} (es : List ℕ) {xs ys o o₁ p p₁ : List ℕ} {w u : Verdict} (m n : ℕ) where
-  pub row-alone : {e f : ℕ} → SameRow v r k e f → Call r v k t (es ++ (e ∷ [])) xs o o₁ (Given w) → Call r v k t (es ++ (f ∷ [])) ys p p₁ (Given u)
+  pub row-alone : {e f : ℕ} → SameRow v r k e f → Call r v k t (es ++ (e ∷ [])) xs o o₁ (Ok w) → Call r v k t (es ++ (f ∷ [])) ys p p₁ (Ok u)
       → Lacks w m → Lacks u n → m ≡ n
   row-alone q c d a b = judged-row-alone es m n q (call-judged c) (call-judged d) a b
 
-  pub two-symbols : (e : ℕ) → Call r v k t (es ++ (e ∷ [])) xs o o₁ (Given w) → Call r v k t (es ++ (e ∷ [])) ys p p₁ (Given u) → Lacks w m → Lacks u n → m ≡ n
+  pub two-symbols : (e : ℕ) → Call r v k t (es ++ (e ∷ [])) xs o o₁ (Ok w) → Call r v k t (es ++ (e ∷ [])) ys p p₁ (Ok u) → Lacks w m → Lacks u n → m ≡ n
   two-symbols e c d a b = judged-two-symbols es m n e (call-judged c) (call-judged d) a b
 
-pub one_more : {v : List ℕ} {r : Row} {k t : ℕ} (es : List ℕ) {xs ys o o₁ p p₁ : List ℕ} {w u : Verdict} (m n e : ℕ) → Call r v k t es xs o o₁ (Given w)
-    → Call r v k t (es ++ (e ∷ [])) ys p p₁ (Given u) → Lacks w m → Lacks u n → (n ≡ m) ⊎ (suc n ≡ m)
+pub one_more : {v : List ℕ} {r : Row} {k t : ℕ} (es : List ℕ) {xs ys o o₁ p p₁ : List ℕ} {w u : Verdict} (m n e : ℕ) → Call r v k t es xs o o₁ (Ok w)
+    → Call r v k t (es ++ (e ∷ [])) ys p p₁ (Ok u) → Lacks w m → Lacks u n → (n ≡ m) ⊎ (suc n ≡ m)
 one_more es m n e c d a b = judged-one-more es m n e (call-judged c) (call-judged d) a b
 
-module _ {v : List ℕ} {r : Row} {k t : ℕ} {es xs o o₁ p p₁ : List ℕ} {s : ℕ} (gs ys : List ℕ) (c : Call r v k t es xs o o₁ (Given (Open s))) where
-  pub more-lower : {u : ℕ} → Call r v k t (es ++ gs) ys p p₁ (Given (Open u)) → s ≤ length gs + u
+module _ {v : List ℕ} {r : Row} {k t : ℕ} {es xs o o₁ p p₁ : List ℕ} {s : ℕ} (gs ys : List ℕ) (c : Call r v k t es xs o o₁ (Ok (Open s))) where
+  pub more-lower : {u : ℕ} → Call r v k t (es ++ gs) ys p p₁ (Ok (Open u)) → s ≤ length gs + u
   more-lower d = judged-more-lower gs ys (call-judged c) (call-judged d)
 
-  pub more-needed : Call r v k t (es ++ gs) ys p p₁ (Given Solved) → s ≤ length gs
+  pub more-needed : Call r v k t (es ++ gs) ys p p₁ (Ok Solved) → s ≤ length gs
   more-needed d = judged-more-needed gs ys (call-judged c) (call-judged d)

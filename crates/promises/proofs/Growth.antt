@@ -5,12 +5,12 @@ use mathlib.Core.Path.{◌≡◌, refl}
 use mathlib.Core.Logic.{◌⊎◌, inl, inr}
 use mathlib.Core.List.{List}
 use Prim.Native.Nat.{ℕ, ◌≤◌}
+use Rattle.std.specs.Prelude.{Ok}
 use Rattle.headers.specs.declared.row.Row.{Row}
 use Rattle.linear.proofs.Growth.{contradiction-remains, solved-same-bytes, solved-never-opens, shortfall-shrinks}
 use Rattle.linear.proofs.AnswersBytes.{solved-bytes-not-contradiction, open-bytes-not-contradiction}
 use Rattle.elimination.specs.declared.verdict.Verdict.{Verdict}
 use Rattle.elimination.specs.declared.verdict.Verdict.TheVariants.{Solved, Contradiction, Open}
-use Rattle.solver.specs.declared.solver.Solution.TheVariants.{Given}
 use Rattle.promises.specs.Calls.{Call, Judged, Among, set_in}
 use Rattle.promises.proofs.Equations.{among-equations}
 use Rattle.promises.proofs.Exactly.{call-judged}
@@ -38,13 +38,13 @@ module _ {v : List ℕ} {r : Row} {k t : ℕ} {es xs fs ys o o₁ p p₁ : List 
 
   -- ---- of two calls
 
-  pub solved-then : Call r v k t es xs o o₁ (Given Solved) → (w : Verdict) → Call r v k t fs ys p p₁ (Given w)
+  pub solved-then : Call r v k t es xs o o₁ (Ok Solved) → (w : Verdict) → Call r v k t fs ys p p₁ (Ok w)
       → ((w ≡ Solved) × (set_in r t p₁ ≡ set_in r t o₁)) ⊎ (w ≡ Contradiction)
   solved-then c w d = judged-solved-then (call-judged c) w (call-judged d)
 
-  pub contradiction-then : Call r v k t es xs o o₁ (Given Contradiction) → (w : Verdict) → Call r v k t fs ys p p₁ (Given w) → w ≡ Contradiction
+  pub contradiction-then : Call r v k t es xs o o₁ (Ok Contradiction) → (w : Verdict) → Call r v k t fs ys p p₁ (Ok w) → w ≡ Contradiction
   contradiction-then c w d = judged-contradiction-then (call-judged c) w (call-judged d)
 
-  pub open-then : {s : ℕ} → Call r v k t es xs o o₁ (Given (Open s)) → (w : Verdict) → Call r v k t fs ys p p₁ (Given w)
+  pub open-then : {s : ℕ} → Call r v k t es xs o o₁ (Ok (Open s)) → (w : Verdict) → Call r v k t fs ys p p₁ (Ok w)
       → (w ≡ Solved) ⊎ ((w ≡ Contradiction) ⊎ ((u : ℕ) × (w ≡ Open u) × (u ≤ s)))
   open-then c w d = judged-open-then (call-judged c) w (call-judged d)

@@ -8,6 +8,7 @@ use native.Mathlib.Nat.{zero-add}
 use native.Mathlib.Omega.{arith}
 use borrow.Author.Tests.{le-ltb, eq-eqb, ne_eqb, lt-leb}
 use lib.ListN.{length, get_or, replicate, length-replicate, get_or-replicate}
+use Rattle.std.specs.Prelude.{Ok}
 use Rattle.field.specs.Answer.{given}
 use Rattle.field.specs.Runs.{Written}
 use Rattle.headers.specs.Row.{l_of}
@@ -15,7 +16,6 @@ use Rattle.headers.specs.declared.row.Row.{Row}
 use Rattle.headers.proofs.Rules.{obeyed}
 use Rattle.elimination.specs.declared.verdict.Verdict.{Verdict}
 use Rattle.solver.specs.System.{admitted, equations}
-use Rattle.solver.specs.declared.solver.Solution.TheVariants.{Given}
 use Rattle.solver.proofs.Displays.{large-none}
 use Rattle.promises.specs.Calls.{Call, Receivable, Judged}
 use Rattle.promises.specs.Nights.{SameAnswer}
@@ -53,7 +53,7 @@ module _ (r : Row) (v : List ℕ) (k t : ℕ) (es xs : List ℕ) where
 
 module _ {r : Row} {v : List ℕ} {k t : ℕ} {es xs o o₁ : List ℕ} {w : Verdict} where
   -- an answer by the definition to at most 65,535 arrivals is that of a call of `solve`
-  pub judged-call : Judged r v k t es xs o o₁ w → length es ≤ 65535 → Call r v k t es xs o o₁ (Given w)
+  pub judged-call : Judged r v k t es xs o o₁ w → length es ≤ 65535 → Call r v k t es xs o o₁ (Ok w)
   judged-call j few =
       let M = equations r k (length es) in
       let a : List ℕ = replicate (M * l_of r) 0 in
@@ -64,7 +64,7 @@ module _ {r : Row} {v : List ℕ} {k t : ℕ} {es xs o o₁ : List ℕ} {w : Ver
       record { rows = a; values = d; rows-after = a; values-after = d; contract = (e, j.means, left-zero (M * l_of r), left-zero (M * t)) }
 
   -- and no call answers to more
-  pub call-few : Call r v k t es xs o o₁ (Given w) → length es ≤ 65535
+  pub call-few : Call r v k t es xs o o₁ (Ok w) → length es ≤ 65535
   call-few c = (sound w c).few
 
   -- Any two answers that the definition allows for the same arrivals, whatever their number, are one.

@@ -6,13 +6,12 @@ use mathlib.Core.Logic.{◌⊎◌, inl, inr, ◌≢◌}
 use mathlib.Core.List.{List}
 use Prim.Native.Nat.{ℕ, ◌<◌}
 use lib.ListN.{length, get_or}
-use Rattle.field.specs.declared.refusal.Answer.TheVariants as Plains
+use Rattle.std.specs.Prelude.{Ok}
 use Rattle.headers.specs.declared.row.Row.{Row}
 use Rattle.linear.specs.Bytes.{cell}
 use Rattle.encoding.specs.Encoded.{Encodes}
 use Rattle.elimination.specs.declared.verdict.Verdict.{Verdict}
 use Rattle.elimination.specs.declared.verdict.Verdict.TheVariants.{Solved, Contradiction}
-use Rattle.solver.specs.declared.solver.Solution.TheVariants.{Given}
 use Rattle.promises.specs.Calls.{Call, Judged, Came, Among, Fitting, Encoding, sent, set_in}
 use Rattle.promises.proofs.Exactly.{call-judged, judged-solved-single}
 use Rattle.promises.proofs.Growth.{judged-solved-then}
@@ -46,7 +45,7 @@ module _ {v : List ℕ} {r : Row} {k t : ℕ} {es xs fs ys o o₁ : List ℕ} (C
       go (inr e) = absurd (judged-never-contradiction (still-fits a) w d e)
 
   -- one of them is not: a contradiction
-  pub judged-unequal-contradicts : {p p₁ : List ℕ} {e b : ℕ} {f : ℕ → ℕ} {us zs : List ℕ} → Came t fs ys e f → Encodes v r k t e C us zs Plains.Done → b < t
+  pub judged-unequal-contradicts : {p p₁ : List ℕ} {e b : ℕ} {f : ℕ → ℕ} {us zs : List ℕ} → Came t fs ys e f → Encodes v r k t e C us zs (Ok tt) → b < t
       → get_or zs b 0 ≢ f b → (w : Verdict) → Judged r v k t fs ys p p₁ w → w ≡ Contradiction
   judged-unequal-contradicts {p} {p₁} {e} {b} {f} {us} {zs} x n l differ w d = go (judged-solved-then m c w d)
     where
@@ -57,11 +56,11 @@ module _ {v : List ℕ} {r : Row} {k t : ℕ} {es xs fs ys o o₁ : List ℕ} (C
 -- ---- of two calls
 
 module _ {v : List ℕ} {r : Row} {k t : ℕ} {es xs fs ys o o₁ : List ℕ} (C : List ℕ) (m : Among t es xs fs ys)
-    (c : Call r v k t es xs o o₁ (Given Solved)) (same : set_in r t C ≡ set_in r t o₁) where
-  pub equal-stays : {p p₁ : List ℕ} → ((i : ℕ) → i < length fs → Agrees v r k t es xs fs ys C i) → (w : Verdict) → Call r v k t fs ys p p₁ (Given w)
+    (c : Call r v k t es xs o o₁ (Ok Solved)) (same : set_in r t C ≡ set_in r t o₁) where
+  pub equal-stays : {p p₁ : List ℕ} → ((i : ℕ) → i < length fs → Agrees v r k t es xs fs ys C i) → (w : Verdict) → Call r v k t fs ys p p₁ (Ok w)
       → (w ≡ Solved) × (set_in r t p₁ ≡ set_in r t o₁)
   equal-stays a w d = judged-equal-stays C m (call-judged c) same a w (call-judged d)
 
-  pub unequal-contradicts : {p p₁ : List ℕ} {e b : ℕ} {f : ℕ → ℕ} {us zs : List ℕ} → Came t fs ys e f → Encodes v r k t e C us zs Plains.Done → b < t
-      → get_or zs b 0 ≢ f b → (w : Verdict) → Call r v k t fs ys p p₁ (Given w) → w ≡ Contradiction
+  pub unequal-contradicts : {p p₁ : List ℕ} {e b : ℕ} {f : ℕ → ℕ} {us zs : List ℕ} → Came t fs ys e f → Encodes v r k t e C us zs (Ok tt) → b < t
+      → get_or zs b 0 ≢ f b → (w : Verdict) → Call r v k t fs ys p p₁ (Ok w) → w ≡ Contradiction
   unequal-contradicts x n l differ w d = judged-unequal-contradicts C m (call-judged c) same x n l differ w (call-judged d)

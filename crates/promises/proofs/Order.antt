@@ -5,6 +5,7 @@ use mathlib.Core.Path.{◌≡◌, sym, ◌∙◌, subst}
 use mathlib.Core.List.{List}
 use Prim.Native.Nat.{ℕ, ◌*◌}
 use lib.ListN.{take}
+use Rattle.std.specs.Prelude.{Ok}
 use Rattle.headers.specs.Row.{l_of}
 use Rattle.headers.specs.declared.row.Row.{Row}
 use Rattle.linear.specs.System.{System, Included}
@@ -15,7 +16,6 @@ use Rattle.elimination.specs.declared.verdict.Verdict.{Verdict}
 use Rattle.elimination.specs.declared.verdict.Verdict.TheVariants.{Solved, Contradiction, Open}
 use Rattle.elimination.proofs.Once.{verdict-once, means-once}
 use Rattle.solver.specs.System.{system_of}
-use Rattle.solver.specs.declared.solver.Solution.TheVariants.{Given}
 use Rattle.promises.specs.Calls.{Call, Judged, Among, set_in}
 use Rattle.promises.proofs.Equations.{among-equations}
 use Rattle.promises.proofs.Exactly.{call-judged}
@@ -54,9 +54,9 @@ module _ {v : List ℕ} {r : Row} {k t : ℕ} {es xs fs ys o o₁ p p₁ : List 
 
   -- ---- of two calls
 
-  pub order-free : (w u : Verdict) → Call r v k t es xs o o₁ (Given w) → Call r v k t fs ys p p₁ (Given u)
+  pub order-free : (w u : Verdict) → Call r v k t es xs o o₁ (Ok w) → Call r v k t fs ys p p₁ (Ok u)
       → (w ≡ u) × (w ≡ Solved → set_in r t o₁ ≡ set_in r t p₁)
   order-free w u c d = judged-order-free w u (call-judged c) (call-judged d)
 
-  pub order-free-out : o ≡ p → (w u : Verdict) → Call r v k t es xs o o₁ (Given w) → Call r v k t fs ys p p₁ (Given u) → o₁ ≡ p₁
+  pub order-free-out : o ≡ p → (w u : Verdict) → Call r v k t es xs o o₁ (Ok w) → Call r v k t fs ys p p₁ (Ok u) → o₁ ≡ p₁
   order-free-out e w u c d = judged-order-free-out e w u (call-judged c) (call-judged d)

@@ -11,12 +11,12 @@ use native.Mathlib.Omega.{arith}
 use borrow.Author.Tests.{leb-true, le-ltb, lt-ltb, eq-eqb, ne_eqb}
 use lib.Dec.{eqb, leb}
 use lib.ListN.{length}
-use Rattle.field.specs.Answer.{Outcome, given, refused, unless, done}
-use Rattle.field.specs.declared.refusal.Answer.{Answer}
-use Rattle.field.specs.declared.refusal.Answer.TheVariants as Plains
+use Rattle.std.specs.Prelude.{Result, Ok, Err}
+use Rattle.field.specs.declared.refusal.Refusal.{Refusal}
+use Rattle.field.specs.Answer.{Outcome, given, refused, unless, outcome}
 use Rattle.field.specs.declared.refusal.Refusal.TheVariants as Why
 use Rattle.field.proofs.Answers.{given-not-refused, refused-only}
-use Rattle.field.proofs.Refusals.{done-only}
+use Rattle.field.proofs.Answers.{outcome-only}
 use Rattle.headers.specs.Row.{l_of}
 use Rattle.headers.specs.declared.row.Row.{Row}
 use Rattle.headers.proofs.Rules.{obeyed}
@@ -38,14 +38,14 @@ lacking-room l t a d o h = go (dec_lt a (l * l)) (dec_lt d (l * t))
     go (no p) (no q) = absurd (h (omega arith) (omega arith))
 
 module _ (m n : Memory) (r : Row) (v : List ℕ) (k t : ℕ) where
-  begin-told : (x : Answer) → Happens (begin r v k t x) m n
-      → done x ≡ beginnable r (length v) k t (length m.state) (length m.pivots) (length m.rows) (length m.values)
-  begin-told Plains.Done h = sym h.0.0
-  begin-told (Plains.Refused why) h = sym h.0.0
+  begin-told : (x : Result (Unit {0}) Refusal) → Happens (begin r v k t x) m n
+      → outcome x ≡ beginnable r (length v) k t (length m.state) (length m.pivots) (length m.rows) (length m.values)
+  begin-told (Ok _) h = sym h.0.0
+  begin-told (Err why) h = sym h.0.0
 
   -- where all else is as it must be, room alone decides
-  room-decides : (x : Answer) → Beginning r v k t m → Happens (begin r v k t x) m n
-      → done x ≡ stores_room (l_of r) t (length m.rows) (length m.values) (given tt)
+  room-decides : (x : Result (Unit {0}) Refusal) → Beginning r v k t m → Happens (begin r v k t x) m n
+      → outcome x ≡ stores_room (l_of r) t (length m.rows) (length m.values) (given tt)
   room-decides x f h = begin-told x h ∙ simp (
     obeyed f.rules,
     eq-eqb (length v) 1024 f.tables,
@@ -57,16 +57,17 @@ module _ (m n : Memory) (r : Row) (v : List ℕ) (k t : ℕ) where
   )
 
   -- with L places it is accepted
-  pub begin-accepted : (x : Answer) → Beginning r v k t m → StoresRoom (l_of r) (l_of r) t m.rows m.values → Happens (begin r v k t x) m n → x ≡ Plains.Done
-  begin-accepted x f room h = done-only x Plains.Done (room-decides x f h ∙ simp (
+  pub begin-accepted : (x : Result (Unit {0}) Refusal) → Beginning r v k t m → StoresRoom (l_of r) (l_of r) t m.rows m.values
+      → Happens (begin r v k t x) m n → x ≡ Ok tt
+  begin-accepted x f room h = outcome-only x (Ok tt) (room-decides x f h ∙ simp (
     le-ltb (length m.rows) (l_of r * l_of r) room.rows,
     le-ltb (length m.values) (l_of r * t) room.symbols,
   ))
 
   -- and with fewer refused by 8
-  pub begin-short : (x : Answer) → Beginning r v k t m → ¬ StoresRoom (l_of r) (l_of r) t m.rows m.values → Happens (begin r v k t x) m n
-      → x ≡ Plains.Refused Why.WrongLength
-  begin-short x f lacks h = done-only x (Plains.Refused Why.WrongLength) (room-decides x f h
+  pub begin-short : (x : Result (Unit {0}) Refusal) → Beginning r v k t m → ¬ StoresRoom (l_of r) (l_of r) t m.rows m.values → Happens (begin r v k t x) m n
+      → x ≡ Err Why.WrongLength
+  begin-short x f lacks h = outcome-only x (Err Why.WrongLength) (room-decides x f h
       ∙ lacking-room (l_of r) t (length m.rows) (length m.values) (given tt) (λ a d. lacks (record { rows = a; symbols = d })))
 
 -- ---- a packet
@@ -86,11 +87,11 @@ nine false false e = absurd (given-not-refused tt 9 e)
 
 -- After every night with an accepted begin, whatever came since:
 module _ (xs : List Event) (m n l : Memory) (z : Stretch) (u : ¬ Begun m.state m.pivots) (night : Night xs m n) (is : since_begin xs ≡ stretch z)
-    (e : ℕ) (s : List ℕ) (x : Answer) (c : Happens (packet e s x) n l) where
+    (e : ℕ) (s : List ℕ) (x : Result (Unit {0}) Refusal) (c : Happens (packet e s x) n l) where
   -- no packet is refused for room
-  pub never-full : x ≢ Plains.Refused Why.WrongLength
-  never-full q = not_eight (leb 16777216 e) (not (eqb (length s) z.t)) (sym (packet-told xs m n l z u night is e s x c) ∙ ap done q)
+  pub never-full : x ≢ Err Why.WrongLength
+  never-full q = not_eight (leb 16777216 e) (not (eqb (length s) z.t)) (sym (packet-told xs m n l z u night is e s x c) ∙ ap outcome q)
 
   -- nor by 9 for how many came: only for its ESI
-  pub nine-for-esi : x ≡ Plains.Refused Why.BadCount → 16777216 ≤ e
-  nine-for-esi q = leb-true 16777216 e (nine (leb 16777216 e) (not (eqb (length s) z.t)) (sym (packet-told xs m n l z u night is e s x c) ∙ ap done q))
+  pub nine-for-esi : x ≡ Err Why.BadCount → 16777216 ≤ e
+  nine-for-esi q = leb-true 16777216 e (nine (leb 16777216 e) (not (eqb (length s) z.t)) (sym (packet-told xs m n l z u night is e s x c) ∙ ap outcome q))

@@ -82,7 +82,8 @@ module _ {v : List ℕ} {r : Row} {k : ℕ} where
   -- ---- the systems, in their rows (so T is 0)
 
   module _ (t : ℕ) where
-    arrivals-included : {es fs : List ℕ} (xs ys : List ℕ) → RowsAmong v r k es fs → Included (l_of r) 0 (arrival_rows v r k t es xs) (arrival_rows v r k t fs ys)
+    arrivals-included : {es fs : List ℕ} (xs ys : List ℕ) → RowsAmong v r k es fs
+        → Included (l_of r) 0 (arrival_rows v r k t es xs) (arrival_rows v r k t fs ys)
     arrivals-included xs ys m i h = let a = m.each i h in (a.0, a.1, record { coefs = a.2.coefs; bytes = λ b l. absurd (omega arith) })
 
     pub rows-included : {es fs : List ℕ} (xs ys : List ℕ) → RowsAmong v r k es fs → Included (l_of r) 0 (system_of r v k t es xs) (system_of r v k t fs ys)

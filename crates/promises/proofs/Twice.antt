@@ -9,11 +9,11 @@ use native.Mathlib.Decide.{dec_lt}
 use native.Mathlib.Omega.{arith}
 use lib.ListN.{length, get_or, length-append}
 use lib.Seq.{get_or-append_seam, get_or-append-add}
+use Rattle.std.specs.Prelude.{Ok}
 use Rattle.headers.specs.declared.row.Row.{Row}
 use Rattle.linear.specs.Bytes.{cell}
 use Rattle.elimination.specs.declared.verdict.Verdict.{Verdict}
 use Rattle.elimination.specs.declared.verdict.Verdict.TheVariants.{Solved, Contradiction}
-use Rattle.solver.specs.declared.solver.Solution.TheVariants.{Given}
 use Rattle.promises.specs.Calls.{Call, Judged, Came, Among, sent, set_in}
 use Rattle.promises.proofs.Among.{old-esi, old-symbol, among-more}
 use Rattle.promises.proofs.Exactly.{call-judged, judged-contradiction-exactly}
@@ -32,7 +32,7 @@ judged-twice-contradicts {v} {r} {k} {t} {es} {xs} {o} {o₁} {e} {f} {g} x y b 
 
 pub twice-contradicts : {v : List ℕ} {r : Row} {k t : ℕ} {es xs o o₁ : List ℕ} {e : ℕ} {f g : ℕ → ℕ} → Came t es xs e f → Came t es xs e g
     → (b : ℕ) → b < t → f b ≢ g b
-    → (w : Verdict) → Call r v k t es xs o o₁ (Given w) → w ≡ Contradiction
+    → (w : Verdict) → Call r v k t es xs o o₁ (Ok w) → w ≡ Contradiction
 twice-contradicts x y b l differ w c = judged-twice-contradicts x y b l differ w (call-judged c)
 
 -- ---- equal
@@ -72,9 +72,9 @@ module _ {v : List ℕ} {r : Row} {k t : ℕ} {es xs o o₁ p p₁ : List ℕ} (
 
   -- ---- of two calls
 
-  pub repeat-changes-nothing : (w u : Verdict) → Call r v k t es xs o o₁ (Given w) → Call r v k t (es ++ (e ∷ [])) (xs ++ s) p p₁ (Given u)
+  pub repeat-changes-nothing : (w u : Verdict) → Call r v k t es xs o o₁ (Ok w) → Call r v k t (es ++ (e ∷ [])) (xs ++ s) p p₁ (Ok u)
       → (w ≡ u) × (w ≡ Solved → set_in r t o₁ ≡ set_in r t p₁)
   repeat-changes-nothing w u c d = judged-repeat-changes-nothing w u (call-judged c) (call-judged d)
 
-  pub repeat-changes-no-octet : o ≡ p → (w u : Verdict) → Call r v k t es xs o o₁ (Given w) → Call r v k t (es ++ (e ∷ [])) (xs ++ s) p p₁ (Given u) → o₁ ≡ p₁
+  pub repeat-changes-no-octet : o ≡ p → (w u : Verdict) → Call r v k t es xs o o₁ (Ok w) → Call r v k t (es ++ (e ∷ [])) (xs ++ s) p p₁ (Ok u) → o₁ ≡ p₁
   repeat-changes-no-octet q w u c d = judged-repeat-changes-no-octet q w u (call-judged c) (call-judged d)

@@ -9,15 +9,14 @@ use Prim.Native.Nat.{ℕ, ◌*◌, ◌<◌}
 use native.Mathlib.Omega.{arith}
 use lib.Dec.{eqb, leb, ltb}
 use lib.ListN.{length, get_or}
-use Rattle.field.specs.Answer.{Outcome, given, refused, unless, done, code_of}
-use Rattle.field.specs.declared.refusal.Answer.{Answer}
-use Rattle.field.specs.declared.refusal.Answer.TheVariants as Plains
+use Rattle.std.specs.Prelude.{Result, Ok, Err}
+use Rattle.field.specs.declared.refusal.Refusal.{Refusal}
+use Rattle.field.specs.Answer.{Outcome, given, refused, unless, outcome, code_of}
 use Rattle.field.specs.declared.refusal.Refusal.TheVariants as Why
 use Rattle.field.proofs.Answers.{given-not-refused, refused-only, code-only}
-use Rattle.field.proofs.Refusals.{done-only}
+use Rattle.field.proofs.Answers.{outcome-only}
 use Rattle.headers.specs.Told.{Told}
-use Rattle.solver.specs.declared.solver.Solution.{Solution}
-use Rattle.solver.specs.declared.solver.Solution.TheVariants as Solutions
+use Rattle.elimination.specs.declared.verdict.Verdict.{Verdict}
 use Rattle.intake.specs.State.{Begun, t_in, l_in}
 use Rattle.intake.specs.Night.{stores_room, takable, askable, asked, Admitted}
 use Rattle.promises.specs.Nights.{Memory, packet, question, Happens}
@@ -87,21 +86,21 @@ lower-question : (st : List ℕ) (a d o : ℕ) → askable st a d o ≢ refused 
 lower-question st a d o =
     lower-stores (l_in st) (t_in st) a d _ (lower (ltb o (l_in st * t_in st)) 8 (given tt) (omega arith) (given-not-refused tt 14))
 
-asked-unbegun : (x : Solution) → (asked x ≡ refused 14) ↔ (x ≡ Solutions.Refused Why.NotBegun)
-asked-unbegun (Solutions.Given w) = (λ e. absurd (given-not-refused tt 14 e), λ e. ap asked e)
-asked-unbegun (Solutions.Refused why) = (λ e. ap Solutions.Refused (code-only why Why.NotBegun (refused-only (code_of why) 14 e)), λ e. ap asked e)
+asked-unbegun : (x : Result Verdict Refusal) → (asked x ≡ refused 14) ↔ (x ≡ Err Why.NotBegun)
+asked-unbegun (Ok w) = (λ e. absurd (given-not-refused tt 14 e), λ e. ap asked e)
+asked-unbegun (Err why) = (λ e. ap Err (code-only why Why.NotBegun (refused-only (code_of why) 14 e)), λ e. ap asked e)
 
 -- ---- of a packet, and of a question
 
 module _ (m n : Memory) where
-  pub packet-exactly : (e : ℕ) (s : List ℕ) (x : Answer) → Happens (packet e s x) m n
-      → (x ≡ Plains.Refused Why.NotBegun) ↔ (¬ Begun m.state m.pivots)
+  pub packet-exactly : (e : ℕ) (s : List ℕ) (x : Result (Unit {0}) Refusal) → Happens (packet e s x) m n
+      → (x ≡ Err Why.NotBegun) ↔ (¬ Begun m.state m.pivots)
   packet-exactly e s x h =
-      let a = unbegun-exactly _ _ _ (done x) h.admitted (lower-packet m.state e (length s) (length m.rows) (length m.values)) in
-      (λ q. a.0 (ap done q), λ u. done-only x (Plains.Refused Why.NotBegun) (a.1 u))
+      let a = unbegun-exactly _ _ _ (outcome x) h.admitted (lower-packet m.state e (length s) (length m.rows) (length m.values)) in
+      (λ q. a.0 (ap outcome q), λ u. outcome-only x (Err Why.NotBegun) (a.1 u))
 
-  pub question-exactly : (o o₁ : List ℕ) (x : Solution) → Happens (question o o₁ x) m n
-      → (x ≡ Solutions.Refused Why.NotBegun) ↔ (¬ Begun m.state m.pivots)
+  pub question-exactly : (o o₁ : List ℕ) (x : Result Verdict Refusal) → Happens (question o o₁ x) m n
+      → (x ≡ Err Why.NotBegun) ↔ (¬ Begun m.state m.pivots)
   question-exactly o o₁ x h =
       let a = unbegun-exactly _ _ _ (asked x) h.admitted (lower-question m.state (length m.rows) (length m.values) (length o)) in
       let b = asked-unbegun x in

@@ -1,8 +1,8 @@
 -- Demand 3 in the words of a caller: a call of `solve`, its arrivals, and the sets of intermediate symbols that fit. Document 02, E14: the same of any number
 -- of arrivals.
 -- Assumes nothing.
-use Rattle.std.specs.Prelude.{◌≡◌, ◌≢◌, List, [], ℕ, ◌*◌, ◌≤◌, ◌<◌, length, get_or, take}
-use Rattle.field.specs.declared.refusal.Answer.TheVariants as Plains
+use Rattle.std.specs.Prelude.{◌≡◌, ◌≢◌, List, [], ℕ, ◌*◌, ◌≤◌, ◌<◌, length, get_or, take, Result, Ok}
+use Rattle.field.specs.declared.refusal.Refusal.{Refusal}
 use Rattle.headers.specs.Row.{Obeys, l_of}
 use Rattle.headers.specs.Shift.{shifted}
 use Rattle.headers.specs.declared.row.Row.{Row}
@@ -18,10 +18,9 @@ use Rattle.elimination.specs.Verdict.{Means}
 use Rattle.elimination.specs.declared.verdict.Verdict.{Verdict}
 use Rattle.elimination.specs.declared.verdict.Verdict.TheVariants.{Solved, Contradiction, Open}
 use Rattle.solver.specs.System.{Solves, equations, sent_row, system_of}
-use Rattle.solver.specs.declared.solver.Solution.{Solution}
 
 -- a call of `solve`: ESIs es, symbols xs, the out store o before and o₁ after, and the answer; whatever the two scratch stores were
-pub record Call (r : Row) (v : List ℕ) (k t : ℕ) (es xs o o₁ : List ℕ) (answer : Solution) : Type 0 where
+pub record Call (r : Row) (v : List ℕ) (k t : ℕ) (es xs o o₁ : List ℕ) (answer : Result Verdict Refusal) : Type 0 where
   pub rows : List ℕ
   pub values : List ℕ
   pub rows-after : List ℕ
@@ -135,5 +134,5 @@ Depends v r k es e =
 pub record Encoding (v : List ℕ) (r : Row) (k t e : ℕ) (C : List ℕ) (f : ℕ → ℕ) : Type 0 where
   pub out : List ℕ
   pub after : List ℕ
-  pub contract : Encodes v r k t e C out after Plains.Done
+  pub contract : Encodes v r k t e C out after (Ok tt)
   pub front : (b : ℕ) → b < t → f b ≡ get_or after b 0

@@ -1,15 +1,13 @@
 -- Document 02, E1 and E14, in the words of a caller: a night is begins, packets and questions, one after the other, each handed what the last one left.
 -- Assumes nothing.
-use Rattle.std.specs.Prelude.{◌≡◌, List, [], ◌∷◌, ◌++◌, ℕ, ◌*◌, ◌≤◌, ◌<◌, length}
-use Rattle.field.specs.declared.refusal.Answer.{Answer}
-use Rattle.field.specs.declared.refusal.Answer.TheVariants as Plains
+use Rattle.std.specs.Prelude.{◌≡◌, List, [], ◌∷◌, ◌++◌, ℕ, ◌*◌, ◌≤◌, ◌<◌, length, Result, Ok, Err}
+use Rattle.field.specs.declared.refusal.Refusal.{Refusal}
 use Rattle.headers.specs.Row.{Obeys, l_of}
 use Rattle.headers.specs.declared.row.Row.{Row}
 use Rattle.elimination.specs.Steps.{StoresRoom}
 use Rattle.elimination.specs.declared.verdict.Verdict.{Verdict}
 use Rattle.elimination.specs.declared.verdict.Verdict.TheVariants.{Solved}
 use Rattle.solver.specs.System.{equations}
-use Rattle.solver.specs.declared.solver.Solution.{Solution}
 use Rattle.intake.specs.State.{Begun}
 use Rattle.intake.specs.Night.{Stretch, fresh, arrived, Holding, Begins, Takes, Asks}
 use Rattle.promises.specs.Calls.{Call, Judged, set_in}
@@ -25,9 +23,9 @@ pub record Memory : Type 0 where
 
 -- a call with all that it was handed but the memory, and with its answer; of a question the out store before and after, too
 pub data Event : Type 0 where
-  begin : Row → List ℕ → (k t : ℕ) → Answer → Event
-  packet : (esi : ℕ) → (symbol : List ℕ) → Answer → Event
-  question : (out out₁ : List ℕ) → Solution → Event
+  begin : Row → List ℕ → (k t : ℕ) → Result (Unit {0}) Refusal → Event
+  packet : (esi : ℕ) → (symbol : List ℕ) → Result (Unit {0}) Refusal → Event
+  question : (out out₁ : List ℕ) → Result Verdict Refusal → Event
 
 -- its contract, from the memory before to the memory after; a begin is lent pivots and stores only to measure them
 abbrev pub Happens : Event → Memory → Memory → Type 0
@@ -65,10 +63,10 @@ with_packet (stretch z) e s = stretch (arrived z e s)
 
 -- an accepted begin forgets all, an accepted packet comes behind the others, and nothing else counts
 abbrev pub after : Since → Event → Since
-after was (begin r v k t Plains.Done) = stretch (fresh r v k t)
-after was (begin r v k t (Plains.Refused why)) = was
-after was (packet e s Plains.Done) = with_packet was e s
-after was (packet e s (Plains.Refused why)) = was
+after was (begin r v k t (Ok _)) = stretch (fresh r v k t)
+after was (begin r v k t (Err why)) = was
+after was (packet e s (Ok _)) = with_packet was e s
+after was (packet e s (Err why)) = was
 after was (question o o₁ x) = was
 
 abbrev pub after_all : Since → List Event → Since
@@ -87,7 +85,7 @@ Keeps nothing m = ¬ Begun m.state m.pivots
 Keeps (stretch z) m = Holding z m.state m.pivots m.rows m.values
 
 -- a question after a night that began with a memory in which nothing was begun: the out store o before and o₁ after, and the answer
-pub record Question (xs : List Event) (o o₁ : List ℕ) (answer : Solution) : Type 0 where
+pub record Question (xs : List Event) (o o₁ : List ℕ) (answer : Result Verdict Refusal) : Type 0 where
   pub lent : Memory
   pub left : Memory
   pub last : Memory
@@ -102,7 +100,7 @@ abbrev pub JudgedOn : Stretch → (o o₁ : List ℕ) → Verdict → Type 0
 JudgedOn z o o₁ w = Judged z.row z.tables z.k z.t z.esis z.symbols o o₁ w
 
 -- a call of `solve` on them, which takes 65,535 at most
-abbrev pub CallOn : Stretch → (o o₁ : List ℕ) → Solution → Type 0
+abbrev pub CallOn : Stretch → (o o₁ : List ℕ) → Result Verdict Refusal → Type 0
 CallOn z o o₁ x = Call z.row z.tables z.k z.t z.esis z.symbols o o₁ x
 
 -- and stores that are long enough for it: M·L, M·T and L·T octets
@@ -121,8 +119,8 @@ pub record SameAnswer (r : Row) (t : ℕ) (o o₁ p p₁ : List ℕ) (w u : Verd
 -- none of these is an accepted begin
 abbrev pub NoBegin : List Event → Type 0
 NoBegin [] = Unit {0}
-NoBegin (begin r v k t Plains.Done ∷ xs) = ⊥
-NoBegin (begin r v k t (Plains.Refused why) ∷ xs) = NoBegin xs
+NoBegin (begin r v k t (Ok _) ∷ xs) = ⊥
+NoBegin (begin r v k t (Err why) ∷ xs) = NoBegin xs
 NoBegin (packet e s x ∷ xs) = NoBegin xs
 NoBegin (question o o₁ x ∷ xs) = NoBegin xs
 
@@ -130,16 +128,16 @@ NoBegin (question o o₁ x ∷ xs) = NoBegin xs
 abbrev pub accepted_esis : List Event → List ℕ
 accepted_esis [] = []
 accepted_esis (begin r v k t x ∷ xs) = accepted_esis xs
-accepted_esis (packet e s Plains.Done ∷ xs) = e ∷ accepted_esis xs
-accepted_esis (packet e s (Plains.Refused why) ∷ xs) = accepted_esis xs
+accepted_esis (packet e s (Ok _) ∷ xs) = e ∷ accepted_esis xs
+accepted_esis (packet e s (Err why) ∷ xs) = accepted_esis xs
 accepted_esis (question o o₁ x ∷ xs) = accepted_esis xs
 
 -- and their symbols
 abbrev pub accepted_symbols : List Event → List ℕ
 accepted_symbols [] = []
 accepted_symbols (begin r v k t x ∷ xs) = accepted_symbols xs
-accepted_symbols (packet e s Plains.Done ∷ xs) = s ++ accepted_symbols xs
-accepted_symbols (packet e s (Plains.Refused why) ∷ xs) = accepted_symbols xs
+accepted_symbols (packet e s (Ok _) ∷ xs) = s ++ accepted_symbols xs
+accepted_symbols (packet e s (Err why) ∷ xs) = accepted_symbols xs
 accepted_symbols (question o o₁ x ∷ xs) = accepted_symbols xs
 
 -- how many they are: document 02, E9, counts by this

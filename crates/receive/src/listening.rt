@@ -1,77 +1,47 @@
 // The packets, one after the other as they come, and how it stands at every hundredth.
 ghost use Rattle.std.specs.Prelude.{◌≤◌, length};
+ghost use Rattle.delivery.specs.Hearing.{StaysLent};
 
-use crate::input::Input;
 use crate::{input, output};
 use delivery::beneath::packets::Passed;
+use delivery::beneath::receiver::Memory;
 use delivery::beneath::{packets, receiver};
 use intake::intake::question;
-use reply::beneath::words::Failure;
-use solver::solver::Solution;
-
-// To the end of the input, with what was passed over; or a read failed, which was said.
-#[derive(Clone, Copy)]
-pub enum Listened {
-    Ended(Passed),
-    Failed,
-}
+use std::io;
 
 // At every hundredth packet of the block.
-fn tell(
-    rt: &HostRuntime,
-    own: bool,
-    n: u64,
-    state: &mut [u32],
-    pivots: &mut [u16],
-    rows: &mut [u8],
-    values: &mut [u8],
-    set: &mut [u8],
-) {
-    if !own {
+fn tell(rt: &HostRuntime, own: bool, n: u64, memory: &mut Memory<'_>, set: &mut [u8])
+    ensures { StaysLent memory.old memory.new }
+{
+    if !own || n % 100 != 0 {
         return;
     }
-    if n % 100 != 0 {
-        return;
-    }
-    let answer = question(state, pivots, rows, values, set);
     // Nothing refuses a question of what was opened.
-    let Solution::Given(v) = answer else {
-        return;
-    };
-    output::progress(rt, n, v);
+    if let Ok(v) = question(memory.state, memory.pivots, memory.rows, memory.values, set) {
+        output::progress(rt, n, v);
+    }
 }
 
-// Each packet is read into the store, which has its T + 4 bytes. No input has as many packets as the count goes to.
+// To the end of the input: what was passed over, or why a read failed. Each packet is read into the store, which has its T + 4 bytes. No input has as many
+// packets as the count goes to.
 pub fn listen(
     rt: &HostRuntime,
     packet: &mut [u8],
-    state: &mut [u32],
-    pivots: &mut [u16],
-    rows: &mut [u8],
-    values: &mut [u8],
+    memory: &mut Memory<'_>,
     set: &mut [u8],
-) -> Listened
+) -> io::Result<Passed>
     requires { 4 ≤ length packet.old }
+    ensures { StaysLent memory.old memory.new }
 {
     let mut others: u64 = 0;
-    let mut count: u64 = 0;
-    while count < 18446744073709551615 {
-        let n = match input::read_all(&mut rt.stdin(), packet) {
-            Input::All(n) => n,
-            Input::Failed(why) => {
-                output::fail(rt, Failure::Reading, why);
-                return Listened::Failed;
-            }
-        };
+    for count in 0..u64::MAX {
+        let n = input::read_all(&mut rt.stdin(), packet)?;
         if n < packet.len() {
-            let cut = n > 0;
-            return Listened::Ended(Passed { others, cut });
+            return Ok(Passed { others, cut: n > 0 });
         }
-        let own = receiver::hear(packet, state, pivots, rows, values);
+        let own = receiver::hear(packet, memory);
         others = packets::tally(others, own);
-        count += 1;
-        tell(rt, own, count - others, state, pivots, rows, values, set);
+        tell(rt, own, count + 1 - others, memory, set);
     }
-    let cut = false;
-    Listened::Ended(Passed { others, cut })
+    Ok(Passed { others, cut: false })
 }

@@ -20,14 +20,13 @@ const EEXIST: i32 = 17;
 
 const EILSEQ: i32 = 84;
 
-// All of the bytes, or why not: the first write that fails, or takes nothing, is the last one.
+// All of the bytes, or why not: the first write that fails, or takes nothing, is the last one. std's write_all would try one again that a signal broke off.
 fn write_all<W: Write>(to: &mut W, bytes: &[u8]) -> io::Result<()> {
     let mut done = 0;
     while done < bytes.len() {
-        match to.write(&bytes[done..]) {
-            Ok(0) => return Err(Error::from(ErrorKind::WriteZero)),
-            Ok(n) => done += n,
-            Err(why) => return Err(why),
+        match to.write(&bytes[done..])? {
+            0 => return Err(Error::from(ErrorKind::WriteZero)),
+            n => done += n,
         }
     }
     Ok(())
@@ -68,12 +67,9 @@ pub fn note(rt: &HostRuntime, passed: Passed) {
 fn word_end(text: &[u8]) -> usize
     ensures { IsPrefixLen result text.now }
 {
-    for k in 0..text.len() {
-        if text[k..].starts_with(b" (os error ") {
-            return k;
-        }
-    }
-    text.len()
+    (0..text.len())
+        .find(|&k| text[k..].starts_with(b" (os error "))
+        .unwrap_or(text.len())
 }
 
 // The system's word for an error, which is shorter than 256 bytes.
@@ -117,10 +113,7 @@ fn fill(rt: &HostRuntime, mut file: File, object: &[u8]) -> bool {
 
 // A name as std takes it: text in UTF-8.
 fn path(name: &[u8]) -> io::Result<&str> {
-    match str::from_utf8(name) {
-        Ok(text) => Ok(text),
-        Err(_) => Err(Error::from_raw_os_error(EILSEQ)),
-    }
+    str::from_utf8(name).map_err(|_| Error::from_raw_os_error(EILSEQ))
 }
 
 // A new file, so that none that is there is written to.
@@ -212,7 +205,7 @@ fn to_file(rt: &HostRuntime, object: &[u8], out: &[u8])
 fn write_object(rt: &HostRuntime, object: &[u8], out: &[u8])
     requires { length out.now ≤ 4000 }
 {
-    if out.len() == 0 {
+    if out.is_empty() {
         to_output(rt, object);
     } else {
         to_file(rt, object, out);

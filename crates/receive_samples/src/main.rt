@@ -2,118 +2,92 @@
 // for standard output, or words, for standard error), how many bytes that is, these bytes, and the notes on it.
 #![tactic(auto)]
 
-ghost use Rattle.header_text.specs.Counts.{IsPrefixLen};
 ghost use Rattle.reply.specs.Replies.{InStore};
 
+use header_text::input::read_full;
 use reply::beneath::replying;
 use reply::beneath::replying::Reply;
 use std::fs::File;
-use std::io::Read;
 
-// A line that cannot be written is left out.
-fn print(rt: &HostRuntime, bytes: &[u8]) {
+const ANSWERED: [&str; 13] = [
+    "whole",
+    "repaired",
+    "repair-only",
+    "twice",
+    "many-times",
+    "others-between",
+    "other-block",
+    "cut-packet",
+    "one-line",
+    "open",
+    "no-packets",
+    "wrong-symbol",
+    "wrong-id",
+];
+
+// Refusal 3: a number of the transmission information that is 0, or more sub-blocks than units of a symbol.
+const MISANNOUNCED: [&str; 5] = [
+    "no-alignment",
+    "no-size",
+    "no-blocks",
+    "no-sub-blocks",
+    "crowded-symbol",
+];
+
+// One for each part of refusal 4 that a delivery can lead to.
+const MISTYPED: [&str; 9] = [
+    "typed-j", "typed-k", "even-s", "typed-h", "typed-w", "typed-s", "short-k", "short-s", "long-s",
+];
+
+const NOT_TAKEN: [&str; 7] = [
+    "cut-tables",
+    "cut-head",
+    "empty",
+    "no-object",
+    "large-symbols",
+    "two-blocks",
+    "two-sub-blocks",
+];
+
+// What cannot be written is left out, here and below.
+fn part(rt: &HostRuntime, label: &str, bytes: &[u8]) {
+    let _ = println!(rt; ": {label}, {} bytes", bytes.len());
     let _ = rt.write_all(bytes);
-}
-
-fn part(rt: &HostRuntime, label: &[u8], bytes: &[u8]) {
-    print(rt, label);
-    let _ = rt.print(bytes.len());
-    print(rt, b" bytes\n");
-    print(rt, bytes);
 }
 
 fn show(rt: &HostRuntime, reply: Reply, store: &[u8])
     requires { InStore reply store.now }
 {
     match reply {
-        Reply::Object(n) => part(rt, b": object, ", &store[..n]),
-        Reply::Words(n) => part(rt, b": words, ", &store[..n]),
+        Reply::Object(n) => part(rt, "object", &store[..n]),
+        Reply::Words(n) => part(rt, "words", &store[..n]),
     }
-}
-
-// Until the store is full, the input ends or a read fails: so many bytes, at the front of the store.
-fn read_full<R: Read>(from: &mut R, store: &mut [u8]) -> usize
-    ensures { IsPrefixLen result store.new }
-{
-    let mut n = 0;
-    while n < store.len() {
-        match from.read(&mut store[n..]) {
-            Ok(0) => return n,
-            Ok(more) => n += more,
-            Err(_) => return n,
-        }
-    }
-    n
 }
 
 fn sample(rt: &HostRuntime, name: &str) {
-    print(rt, name.as_bytes());
+    let _ = print!(rt; "{name}");
     let Ok(mut file) = File::open(rt, name) else {
-        print(rt, b": cannot be opened\n");
+        let _ = println!(rt; ": cannot be opened");
         return;
     };
-    let mut input = [0u8; 40000];
-    let n = read_full(&mut file, &mut input);
+    let mut bytes = [0u8; 40000];
+    let n = read_full(&mut file, &mut bytes);
     let mut lines = [0u8; 200];
     let mut store = [0u8; 307200];
-    let spoken = replying::reply_to(&input[..n], &mut lines, &mut store);
-    let reply = spoken.reply;
-    let noted = spoken.notes;
-    show(rt, reply, &store);
-    print(rt, &lines[..noted]);
+    let spoken = replying::reply_to(&bytes[..n], &mut lines, &mut store);
+    show(rt, spoken.reply, &store);
+    let _ = rt.write_all(&lines[..spoken.notes]);
 }
 
-fn answered(rt: &HostRuntime) {
-    sample(rt, "whole");
-    sample(rt, "repaired");
-    sample(rt, "repair-only");
-    sample(rt, "twice");
-    sample(rt, "many-times");
-    sample(rt, "others-between");
-    sample(rt, "other-block");
-    sample(rt, "cut-packet");
-    sample(rt, "one-line");
-    sample(rt, "open");
-    sample(rt, "no-packets");
-    sample(rt, "wrong-symbol");
-    sample(rt, "wrong-id");
-}
-
-// Refusal 3: a number of the transmission information that is 0, or more sub-blocks than units of a symbol.
-fn misannounced(rt: &HostRuntime) {
-    sample(rt, "no-alignment");
-    sample(rt, "no-size");
-    sample(rt, "no-blocks");
-    sample(rt, "no-sub-blocks");
-    sample(rt, "crowded-symbol");
-}
-
-// One for each part of refusal 4 that a delivery can lead to.
-fn mistyped(rt: &HostRuntime) {
-    sample(rt, "typed-j");
-    sample(rt, "typed-k");
-    sample(rt, "even-s");
-    sample(rt, "typed-h");
-    sample(rt, "typed-w");
-    sample(rt, "typed-s");
-    sample(rt, "short-k");
-    sample(rt, "short-s");
-    sample(rt, "long-s");
-}
-
-fn not_taken(rt: &HostRuntime) {
-    misannounced(rt);
-    mistyped(rt);
-    sample(rt, "cut-tables");
-    sample(rt, "cut-head");
-    sample(rt, "empty");
-    sample(rt, "no-object");
-    sample(rt, "large-symbols");
-    sample(rt, "two-blocks");
-    sample(rt, "two-sub-blocks");
+fn samples(rt: &HostRuntime, names: &[&str]) {
+    for name in names {
+        sample(rt, name);
+    }
 }
 
 fn main(rt: HostRuntime) {
-    answered(&rt);
-    not_taken(&rt);
+    samples(&rt, &ANSWERED);
+    samples(&rt, &MISANNOUNCED);
+    samples(&rt, &MISTYPED);
+    samples(&rt, &NOT_TAKEN);
 }

@@ -2,6 +2,7 @@
 -- Assumes nothing.
 use mathlib.Core.Path.{◌≡◌, refl, sym, ap, ap₂, ◌∙◌, subst}
 use mathlib.Core.List.{List, ◌++◌}
+use Rattle.std.specs.Prelude.{Ok, Err}
 use Prim.Native.Nat.{ℕ, ◌≤◌}
 use native.Mathlib.Omega.{arith}
 use lib.ListN.{length, take}
@@ -9,10 +10,8 @@ use lib.Seq.{ext_get_or, get_or-take, length-take-le}
 use Rattle.field.proofs.Writing.{written_once}
 use Rattle.elimination.specs.declared.verdict.Verdict.{Verdict}
 use Rattle.elimination.specs.declared.verdict.Verdict.TheVariants.{Solved, Contradiction, Open}
-use Rattle.delivery.specs.Received.{Comes, InRoom}
+use Rattle.delivery.specs.Received.{Comes, InRoom, Received, taken}
 use Rattle.delivery.specs.declared.beneath.packets.Passed.{Passed}
-use Rattle.delivery.specs.declared.beneath.receiver.Received.{Received}
-use Rattle.delivery.specs.declared.beneath.receiver.Received.TheVariants.{Taken, Stopped}
 use Rattle.delivery.proofs.Outcomes.{comes-only, comes-once, object-once, object-in}
 use Rattle.reply.specs.Ascii.{ascii}
 use Rattle.reply.specs.Rows.{typed_in}
@@ -40,8 +39,8 @@ module _ (xs ys zs : List ℕ) (r s : Reply) where
   said-of-once (Open n) f a b = in-words-once (open_words n) xs ys zs r s a b
 
   said-once : (t : Typed) (o : Received) → Said t xs ys r o → Said t xs zs s o → (r ≡ s) × (ys ≡ zs)
-  said-once t (Taken v f p) a b = said-of-once v f a b
-  said-once t (Stopped why) a b = in-words-once (stop_words t why) xs ys zs r s a b
+  said-once t (Ok c) a b = said-of-once c.verdict c.size a b
+  said-once t (Err why) a b = in-words-once (stop_words t why) xs ys zs r s a b
 
 -- any two results that the contract allows are the same: the notes, the stream, the counts and both stores
 pub replied-once : {d ls ms ns xs ys zs : List ℕ} {s u : Spoken} → Replied d ls ms xs ys s → Replied d ls ns xs zs u → (s ≡ u) × (ms ≡ ns) × (ys ≡ zs)
@@ -69,7 +68,7 @@ module _ (ws xs ys us vs : List ℕ) where
   same-words (Words m) (Object n) a b = absurd b
   same-words (Words m) (Words n) a b = (refl, line-is a ∙ sym (line-is b))
 
-module _ (d : List ℕ) {xs ys us vs : List ℕ} {n : ℕ} {o : Passed} (a : Comes d xs ys (Taken Solved n o)) (b : Comes d us vs (Taken Solved n o)) where
+module _ (d : List ℕ) {xs ys us vs : List ℕ} {n : ℕ} {o : Passed} (a : Comes d xs ys (taken Solved n o)) (b : Comes d us vs (taken Solved n o)) where
   same_object : n ≤ length ys → n ≤ length vs → take n ys ≡ take n vs
   same_object p q =
       let l = length-take-le n ys p in
@@ -78,12 +77,12 @@ module _ (d : List ℕ) {xs ys us vs : List ℕ} {n : ℕ} {o : Passed} (a : Com
       (λ k h. get_or-take n ys k 0 (omega arith) ∙ object-once d a b k (omega (arith, object-in d a)) ∙ sym (get_or-take n vs k 0 (omega arith)))
 
 module _ (d xs us ys vs : List ℕ) (r s : Reply) (f : InStore r ys) (g : InStore s vs) where
-  same-said-of : (v : Verdict) (n : ℕ) (o : Passed) (p q : List ℕ) → Comes d xs p (Taken v n o) → Comes d us q
-      (Taken v n o) → SaidOf n p ys r v → SaidOf n q vs s v
+  same-said-of : (v : Verdict) (n : ℕ) (o : Passed) (p q : List ℕ) → Comes d xs p (taken v n o) → Comes d us q
+      (taken v n o) → SaidOf n p ys r v → SaidOf n q vs s v
       → SameStreams r s ys vs
   same-said-of Solved n o p q x y a b =
-      let x₁ = subst (λ (m : List ℕ). Comes d xs m (Taken Solved n o)) (sym a.1) x in
-      let y₁ = subst (λ (m : List ℕ). Comes d us m (Taken Solved n o)) (sym b.1) y in
+      let x₁ = subst (λ (m : List ℕ). Comes d xs m (taken Solved n o)) (sym a.1) x in
+      let y₁ = subst (λ (m : List ℕ). Comes d us m (taken Solved n o)) (sym b.1) y in
       let f₁ = subst (λ (t : Reply). InStore t ys) a.0 f in
       let g₁ = subst (λ (t : Reply). InStore t vs) b.0 g in (
         ap (λ (t : Reply). to_output t ys) a.0 ∙ same_object d x₁ y₁ f₁.0 g₁.0 ∙ sym (ap (λ (t : Reply). to_output t vs) b.0),
@@ -93,8 +92,8 @@ module _ (d xs us ys vs : List ℕ) (r s : Reply) (f : InStore r ys) (g : InStor
   same-said-of (Open m) n o p q x y a b = same-words (open_words m) p ys q vs r s a b
 
   same-said : (t : Typed) (o : Received) (p q : List ℕ) → Comes d xs p o → Comes d us q o → Said t p ys r o → Said t q vs s o → SameStreams r s ys vs
-  same-said t (Taken v n o) p q x y a b = same-said-of v n o p q x y a b
-  same-said t (Stopped why) p q x y a b = same-words (stop_words t why) p ys q vs r s a b
+  same-said t (Ok c) p q x y a b = same-said-of c.verdict c.size c.passed p q x y a b
+  same-said t (Err why) p q x y a b = same-words (stop_words t why) p ys q vs r s a b
 
 -- of one delivery standard output gets the same bytes, and standard error the same notes and words
 pub streams-once : {d ls ms ns ps xs ys us vs : List ℕ} {s u : Spoken} → InStore s.reply ys → InStore u.reply vs → Replied d ls ms xs ys s
@@ -108,19 +107,3 @@ streams-once {d} {ls} {ms} {ns} {ps} {xs} {ys} {us} {vs} {s} {u} f g a b =
     (subst (λ (o : Received). Said (typed_in d) b.store vs u.reply o) (sym e) b.said)
     in
     (w.0, ap₂ ◌++◌ (line-is a.noted ∙ sym (line-is n)) w.1)
-
--- ---- what is written stands in the store
-
-words-front : (ws xs ys : List ℕ) (r : Reply) → InWords ws xs ys r → InStore r ys
-words-front ws xs ys (Object n) u = absurd u
-words-front ws xs ys (Words n) u = line-counts u
-
-module _ (zs ys : List ℕ) (r : Reply) where
-  verdict-front : (v : Verdict) (n : ℕ) → n ≤ length zs → SaidOf n zs ys r v → InStore r ys
-  verdict-front Solved n u w = subst (λ (t : Reply). InStore t ys) (sym w.0) (counts ys (omega (arith, ap length w.1)))
-  verdict-front Contradiction n u w = words-front (ascii "contradiction\n") zs ys r w
-  verdict-front (Open m) n u w = words-front (open_words m) zs ys r w
-
-  pub said-front : (t : Typed) (o : Received) → InRoom (length zs) o → Said t zs ys r o → InStore r ys
-  said-front t (Taken v n p) u w = verdict-front v n u w
-  said-front t (Stopped why) u w = words-front (stop_words t why) zs ys r w

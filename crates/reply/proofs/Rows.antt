@@ -50,8 +50,3 @@ lines-differ p q t u e = place-only p q (sym (part-said p t) ∙ ap part_said e 
 -- a text from the front is a line
 pub lined-line : {ws xs ys : List ℕ} {m n : ℕ} → Lined ws m xs ys 0 n → m ≤ length xs → Line ws xs ys n
 lined-line u h = record { laid = u.laid; count = omega (arith, u.ends); room = omega (arith, u.short) }
-
--- the sentence of a part, in the room of the longest
-module _ {p q : Part} (t : Typed) (e : p ≡ q) {m : ℕ} {xs ys : List ℕ} {at to : ℕ} where
-  pub said : Lined (fault_words p t) m xs ys at to → m ≤ 160 → Lined (fault_words q t) 160 xs ys at to
-  said u h = lined-most (lined-is u (ap (λ (r : Part). fault_words r t) e)) h

@@ -1,12 +1,10 @@
 -- What is written of a delivery, and to which stream (docs/DELIVERY.md).
 -- Assumes nothing.
-use Rattle.std.specs.Prelude.{◌≡◌, List, [], ◌++◌, ℕ, take}
+use Rattle.std.specs.Prelude.{◌≡◌, List, [], ◌++◌, Ok, Err, ℕ, take}
 use Rattle.header_text.specs.Counts.{IsPrefixLen}
 use Rattle.elimination.specs.declared.verdict.Verdict.{Verdict}
 use Rattle.elimination.specs.declared.verdict.Verdict.TheVariants.{Solved, Contradiction, Open}
-use Rattle.delivery.specs.Received.{Comes}
-use Rattle.delivery.specs.declared.beneath.receiver.Received.{Received}
-use Rattle.delivery.specs.declared.beneath.receiver.Received.TheVariants.{Taken, Stopped}
+use Rattle.delivery.specs.Received.{Comes, Received}
 use Rattle.reply.specs.Ascii.{ascii}
 use Rattle.reply.specs.Rows.{typed_in}
 use Rattle.reply.specs.Words.{Line, open_words, passed_words, stop_words}
@@ -45,13 +43,13 @@ SaidOf f xs ys r (Open s) = InWords (open_words s) xs ys r
 
 -- t: the numbers of the row
 abbrev pub Said : Typed → (xs ys : List ℕ) → Reply → Received → Type 0
-Said t xs ys r (Taken verdict f p) = SaidOf f xs ys r verdict
-Said t xs ys r (Stopped why) = InWords (stop_words t why) xs ys r
+Said t xs ys r (Ok c) = SaidOf c.size xs ys r c.verdict
+Said t xs ys r (Err why) = InWords (stop_words t why) xs ys r
 
 -- the notes at the end: what was passed over
 abbrev pub notes_of : Received → List ℕ
-notes_of (Taken verdict f p) = passed_words p
-notes_of (Stopped why) = []
+notes_of (Ok c) = passed_words c.passed
+notes_of (Err why) = []
 
 -- The contract: what comes of the delivery d, said, and the notes on it; ls and ms are their store before and after.
 pub record Replied (d ls ms xs ys : List ℕ) (s : Spoken) : Type 0 where

@@ -1,7 +1,9 @@
 -- Symbols of a slab: what a call that is not refused knows of its places, and that a call which writes one symbol changes no other.
 -- Assumes nothing.
-use mathlib.Core.Path.{◌≡◌, sym, ap, ◌∙◌}
-use mathlib.Core.Bool.{false}
+use mathlib.Core.Path.{◌≡◌, refl, sym, ap, ◌∙◌}
+use mathlib.Core.Bool.{Bool, false}
+use mathlib.Core.Logic.{⊎_elim}
+use Rattle.std.specs.Prelude.{Result}
 use mathlib.Core.List.{List}
 use Prim.Native.Nat.{ℕ, ◌+◌, ◌*◌, ◌≤◌, ◌<◌}
 use native.Mathlib.Decide.{ℕ_discrete, dec_lt}
@@ -10,11 +12,16 @@ use borrow.Author.Tests.{ltb-false, leb-false, eqb-false, ne_eqb}
 use lib.Dec.{eqb, ltb, leb}
 use lib.ListN.{length, get_or, drop, length-take, length-drop}
 use lib.Seq.{ext_get_or}
-use Rattle.field.specs.Runs.{Written, Apart, part}
+use Rattle.field.specs.Octet.{plus}
+use Rattle.field.specs.Runs.{Written, Apart, part, added, fused}
+use Rattle.field.proofs.Laws.{one-times}
+use Rattle.field.proofs.Writing.{written_as}
 use Rattle.field.proofs.Parts.{part_at, block-ends, blocks-apart}
-use Rattle.field.specs.Answer.{given}
+use Rattle.field.specs.Answer.{Outcome, given, refused, Tells}
 use Rattle.field.proofs.Answers.{given-only}
-use Rattle.slabs.specs.Slab.{Reached, physical, strange, addressable, addressable_pair, range_of}
+use Rattle.field.specs.declared.refusal.Refusal.{Refusal}
+use Rattle.slabs.specs.Slab.{Reached, physical, start, symbol, strange, addressable, addressable_pair, range_of, SymbolsAdded, SymbolsFused}
+use Rattle.slabs.specs.declared.symbol_slab.SymbolSlab.{SymbolSlab}
 use Rattle.field.proofs.Refusals.{passed, passed-before}
 
 sound : (n count : ℕ) → strange n count ≡ false → (n ≡ 0 → ⊥) → n ≡ count
@@ -99,3 +106,35 @@ module _ {f : ℕ → ℕ} {xs ys : List ℕ} (p t : ℕ) (w : Written f xs ys (
           let r : p < q = omega (arith, d) in
           let e = block-ends t r in
           part_at ys (q * t) t k h ∙ w.high (q * t + k) (omega arith) ∙ sym (part_at xs (q * t) t k h)
+
+-- A sum with 1 times a symbol is a sum. The source is not written, so that its bytes are known from what is there afterwards.
+module _ (xs ys : List ℕ) (slab : SymbolSlab) (order : List ℕ) (dest src : ℕ) (r : Result Bool Refusal) (octets : (k : ℕ) → get_or ys k 0 < 256) where
+  abbrev to : ℕ
+  to = start slab order dest
+
+  abbrev from : ℕ
+  from = start slab order src
+
+  abbrev source : List ℕ
+  source = symbol slab order src xs
+
+  abbrev Told : Outcome (Unit {0}) → (ℕ → ℕ) → Type 0
+  Told o f = Tells o xs f to slab.size r ys
+
+  sum-written : Apart (length xs) slab.size to from → Written (fused xs to 1 source) xs ys to slab.size → Written (added xs to source) xs ys to slab.size
+  sum-written a w = written_as w (λ k h. ap (plus (get_or xs (to + k) 0)) (one-times (get_or source k 0) (octet k h)))
+    where
+      octet : (k : ℕ) → k < slab.size → get_or source k 0 < 256
+      octet k h =
+          let same = ⊎_elim (λ u. w.high (from + k) (omega arith)) (λ u. w.low (from + k) (omega arith)) a.apart in
+          omega (arith, part_at xs from slab.size k h, same, octets (from + k))
+
+  by-outcome : (o : Outcome (Unit {0})) → addressable_pair (length xs) slab.count slab.size order dest src ≡ o → Told o (fused xs to 1 source)
+      → Told o (added xs to source)
+  by-outcome (given _) e u =
+      let w = sum-written (apart (addressed-pair-well (length xs) slab.count slab.size order dest src e)) (rw u.0 at u.1) in
+      (u.0, rw u.0 w)
+  by-outcome (refused n) e u = (u.0, rw u.0 (rw u.0 at u.1))
+
+  pub sum-told : SymbolsFused xs slab order dest src 1 r ys → SymbolsAdded xs slab order dest src r ys
+  sum-told u = by-outcome _ refl u

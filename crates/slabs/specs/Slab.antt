@@ -1,16 +1,12 @@
 -- Symbols in lent bytes (document 01, 'Matrices and slab'; symbol_slab.rs): where symbol i lies, and which calls are refused.
 -- Assumes nothing.
-use Rattle.std.specs.Prelude.{◌≡◌, Bool, not, List, ℕ, ◌+◌, ◌*◌, ◌<◌, eqb, ltb, leb, length, get_or}
-use Rattle.field.specs.Answer.{Outcome, given, refused, unless, before, Does, Tells, code_of}
+use Rattle.std.specs.Prelude.{◌≡◌, Bool, not, List, Result, ℕ, ◌+◌, ◌*◌, ◌<◌, eqb, ltb, leb, length, get_or}
+use Rattle.std.specs.declared.ops.Range.{Range}
+use Rattle.field.specs.Answer.{Outcome, given, unless, before, Does, Tells, outcome_of}
 use Rattle.field.specs.Choice.{pick, both}
 use Rattle.field.specs.Runs.{Written, part, added, fused, scaled}
+use Rattle.field.specs.declared.refusal.Refusal.{Refusal}
 use Rattle.slabs.specs.declared.symbol_slab.SymbolSlab.{SymbolSlab}
-use Rattle.slabs.specs.declared.symbol_slab.Made.{Made}
-use Rattle.slabs.specs.declared.symbol_slab.Made.TheVariants as Mades
-use Rattle.slabs.specs.declared.symbol_slab.Changed.{Changed}
-use Rattle.slabs.specs.declared.symbol_slab.Changed.TheVariants as Changes
-use Rattle.slabs.specs.declared.symbol_slab.Range.{Range}
-use Rattle.slabs.specs.declared.symbol_slab.Range.TheVariants as Ranges
 
 -- where an order puts symbol i; an order of length 0 is none
 abbrev pub physical : List ℕ → ℕ → ℕ
@@ -53,37 +49,28 @@ addressable_pair len count t order dest src =
 abbrev pub range_of : ℕ → ℕ → ℕ → List ℕ → ℕ → Outcome (ℕ × ℕ)
 range_of len count t order i = before (addressable len count t order i) (given (physical order i * t, physical order i * t + t))
 
--- what the answers stand for
-abbrev pub range_outcome : Range → Outcome (ℕ × ℕ)
-range_outcome (Ranges.Bytes start end) = given (start, end)
-range_outcome (Ranges.Refused why) = refused (code_of why)
-
-abbrev pub changed_outcome : Changed → Outcome Bool
-changed_outcome (Changes.AllZero zero) = given zero
-changed_outcome (Changes.Refused why) = refused (code_of why)
-
-abbrev pub slab_outcome : Made → Outcome SymbolSlab
-slab_outcome (Mades.Slab slab) = given slab
-slab_outcome (Mades.Refused why) = refused (code_of why)
+-- what a range that is told stands for: where it begins and ends
+abbrev pub range_outcome : Result (Range ℕ) Refusal → Outcome (ℕ × ℕ)
+range_outcome = outcome_of (λ r. (r.start, r.end))
 
 -- The calls. xs is the store at entry and ys at exit, r the answer.
 
-abbrev pub Zeroed : List ℕ → ℕ → ℕ → Made → List ℕ → Type 0
+abbrev pub Zeroed : List ℕ → ℕ → ℕ → Result SymbolSlab Refusal → List ℕ → Type 0
 Zeroed xs count t =
-    Does slab_outcome (unless (ltb 131070 count) 2 (unless (ltb (length xs) (count * t)) 8 (given record { count = count; size = t }))) xs
+    Does (unless (ltb 131070 count) 2 (unless (ltb (length xs) (count * t)) 8 (given record { count = count; size = t }))) xs
     (λ ys. Written (λ k. 0) xs ys 0 (count * t))
 
-abbrev pub SymbolsAdded : List ℕ → SymbolSlab → List ℕ → ℕ → ℕ → Changed → List ℕ → Type 0
+abbrev pub SymbolsAdded : List ℕ → SymbolSlab → List ℕ → ℕ → ℕ → Result Bool Refusal → List ℕ → Type 0
 SymbolsAdded xs slab order dest src =
-    Tells changed_outcome (addressable_pair (length xs) slab.count slab.size order dest src) xs
+    Tells (addressable_pair (length xs) slab.count slab.size order dest src) xs
     (added xs (start slab order dest) (symbol slab order src xs)) (start slab order dest) slab.size
 
-abbrev pub SymbolScaled : List ℕ → SymbolSlab → List ℕ → ℕ → ℕ → Changed → List ℕ → Type 0
+abbrev pub SymbolScaled : List ℕ → SymbolSlab → List ℕ → ℕ → ℕ → Result Bool Refusal → List ℕ → Type 0
 SymbolScaled xs slab order dest c =
-    Tells changed_outcome (addressable (length xs) slab.count slab.size order dest) xs
+    Tells (addressable (length xs) slab.count slab.size order dest) xs
     (scaled c (symbol slab order dest xs)) (start slab order dest) slab.size
 
-abbrev pub SymbolsFused : List ℕ → SymbolSlab → List ℕ → ℕ → ℕ → ℕ → Changed → List ℕ → Type 0
+abbrev pub SymbolsFused : List ℕ → SymbolSlab → List ℕ → ℕ → ℕ → ℕ → Result Bool Refusal → List ℕ → Type 0
 SymbolsFused xs slab order dest src c =
-    Tells changed_outcome (addressable_pair (length xs) slab.count slab.size order dest src) xs
+    Tells (addressable_pair (length xs) slab.count slab.size order dest src) xs
     (fused xs (start slab order dest) c (symbol slab order src xs)) (start slab order dest) slab.size

@@ -1,6 +1,7 @@
 -- What is displayed: the loops over the ids, the place of a symbol, and that the contracts settle the answer.
 -- Assumes nothing.
-use mathlib.Core.Path.{◌≡◌, refl, ap}
+use mathlib.Core.Path.{◌≡◌, refl, sym}
+use mathlib.Core.Logic.{◌≢◌}
 use mathlib.Core.Bool.{Bool, true, false, not}
 use mathlib.Core.List.{List, [], ◌∷◌}
 use Prim.Native.Nat.{ℕ, zero, suc, ◌+◌, ◌*◌, ◌≤◌, ◌<◌}
@@ -9,14 +10,19 @@ use native.Mathlib.Omega.{arith}
 use borrow.Author.Tests.{eq-eqb, ne_eqb, ltb-true, ltb-false, leb-false, eqb-true, not-false}
 use lib.Dec.{leb, ltb, eqb}
 use lib.ListN.{length, get_or}
+use Rattle.std.specs.Bool.{MatchBool}
+use Rattle.std.specs.List.{AllWithin, HoldsAt}
+use Rattle.std.specs.Option.{MatchOption, unwrap_or}
+use Rattle.std.specs.Prelude.{Option}
+use Rattle.std.proofs.lemmas.Iterator.{index_from_first}
 use Rattle.field.specs.Choice.{pick}
 use Rattle.field.specs.Answer.{given}
 use Rattle.field.proofs.Parts.{block-ends}
-use Rattle.field.proofs.Answers.{given-only, named-code, answer_of, answer-only}
+use Rattle.field.proofs.Answers.{given-only}
 use Rattle.field.proofs.Refusals.{passed, passed-before}
-use Rattle.solver.specs.Display.{any_large, standing, answerable, Place, arrived, rebuilt, whereof, located, place_outcome}
-use Rattle.solver.specs.declared.display.Shown.{Shown}
-use Rattle.solver.specs.declared.display.Shown.TheVariants as Showns
+use Rattle.solver.specs.Display.{any_large, standing, answerable, whereof, located}
+use Rattle.solver.specs.declared.display.Place.{Place}
+use Rattle.solver.specs.declared.display.Place.TheVariants.{Arrived, Rebuilt}
 
 -- a large id at p, and none before
 pub large-at : (es : List ℕ) (p : ℕ) → p < length es → leb 16777216 (get_or es p 0) ≡ true → any_large es ≡ true
@@ -34,31 +40,29 @@ unfolding any_large
 large-none [] h = refl
 large-none (x ∷ es) h = rw (h 0 (omega arith)) (large-none es (λ p l. h (suc p) (omega arith)))
 
--- the first i stands at p
-pub standing-at : (es : List ℕ) (i p : ℕ) → p < length es → get_or es p 0 ≡ i → ((q : ℕ) → q < p → get_or es q 0 ≡ i → ⊥) → standing es i ≡ p
-unfolding standing
-standing-at [] i p h e n = absurd (not-suc-le-zero h)
-standing-at (x ∷ es) i zero h e n = rw (eq-eqb x i e)
-standing-at (x ∷ es) i (suc p) h e n =
-    rw (ne_eqb x i (n 0 (omega arith))) (ap suc (standing-at es i p (le_of_suc-le-suc h) e (λ q l. n (suc q) (omega arith))))
+-- what a search for one tells
+pub large-told : (es : List ℕ) (r : Bool) → MatchBool r ((k : ℕ) × (k < length es) × HoldsAt (λ e. leb 16777216 e ≡ true) es k)
+    (AllWithin (λ e. leb 16777216 e ≡ false) es 0 (length es)) → r ≡ any_large es
+large-told es true h = sym (large-at es h.0 h.1 (h.2 0))
+large-told es false h = sym (large-none es (λ p l. h p 0 (omega arith) l))
 
-pub standing-none : (es : List ℕ) (i : ℕ) → ((q : ℕ) → q < length es → get_or es q 0 ≡ i → ⊥) → standing es i ≡ length es
-unfolding standing
-standing-none [] i n = refl
-standing-none (x ∷ es) i n = rw (ne_eqb x i (n 0 (omega arith))) (ap suc (standing-none es i (λ q l. n (suc q) (omega arith))))
+-- what a search for the first i tells
+module _ (i : ℕ) where
+  here : (e : ℕ) (es : List ℕ) → e ≡ i → standing (e ∷ es) i ≡ 0
+  unfolding standing
+  here e es q = rw (eq-eqb e i q)
 
-abbrev shown_at : Place → Shown
-shown_at (arrived s) = Showns.Arrived s
-shown_at (rebuilt s) = Showns.Rebuilt s
+  past : (e : ℕ) (es : List ℕ) → e ≢ i → standing (e ∷ es) i ≡ standing es i + 1
+  unfolding standing
+  past e es n = rw (ne_eqb e i n) (omega arith)
 
-located-back : (a : Shown) → answer_of shown_at Showns.Refused (place_outcome a) ≡ a
-located-back (Showns.Arrived s) = refl
-located-back (Showns.Rebuilt s) = refl
-located-back (Showns.Refused w) = ap Showns.Refused (named-code w)
+  none : standing [] i ≡ 0
+  unfolding standing
+  none = refl
 
--- the answer of `locate` is settled
-pub located-only : (p q : Shown) → place_outcome p ≡ place_outcome q → p ≡ q
-located-only = answer-only place_outcome shown_at Showns.Refused located-back
+pub standing-told : (es : List ℕ) (i : ℕ) (r : Option ℕ) → MatchOption r (AllWithin (λ e. e ≢ i) es 0 (length es))
+    (λ k. (k < length es) × HoldsAt (λ e. e ≡ i) es k × AllWithin (λ e. e ≢ i) es 0 k) → standing es i ≡ unwrap_or r (length es)
+standing-told es i = index_from_first (λ xs. standing xs i) (λ e. e ≡ i) (λ e. e ≢ i) (none i) (here i) (past i) es
 
 -- what a call that is not refused has made sure of
 pub record Asked (n came built k t i : ℕ) : Type 0 where
@@ -88,24 +92,24 @@ asked n large came built k t i e =
 
 -- a symbol that is located lies whole in its store
 module _ (k t : ℕ) (es : List ℕ) (came built i s : ℕ) where
-  fine : {p : Place} → located k t es came built i ≡ given p → Asked (length es) came built k t i × (whereof t es i ≡ p)
+  fine : {p : Place} → given p ≡ located k t es came built i → Asked (length es) came built k t i × (whereof t es i ≡ p)
   fine {p} e =
-      let q = passed-before (answerable (length es) (any_large es) came built k t i) (given (whereof t es i)) p e in
+      let q = passed-before (answerable (length es) (any_large es) came built k t i) (given (whereof t es i)) p (sym e) in
       (asked (length es) (any_large es) came built k t i q.1, given-only (whereof t es i) p q.2)
 
-  pub arrived-in : located k t es came built i ≡ given (arrived s) → s + t ≤ came
+  pub arrived-in : given (Arrived s) ≡ located k t es came built i → s + t ≤ came
   arrived-in e = let f = fine e in go (ltb (standing es i) (length es)) refl f.1 f.0
     where
-      go : (b : Bool) → ltb (standing es i) (length es) ≡ b → pick b (arrived (standing es i * t)) (rebuilt (i * t)) ≡ arrived s → Asked (length es) came built k t i → s + t ≤ came
+      go : (b : Bool) → ltb (standing es i) (length es) ≡ b → pick b (Arrived (standing es i * t)) (Rebuilt (i * t)) ≡ Arrived s → Asked (length es) came built k t i → s + t ≤ came
       go true q m a =
           let z : standing es i * t ≡ s = cc in
           omega (arith, block-ends t (ltb-true (standing es i) (length es) q), a.whole)
       go false q m a = absurd (let z : ◌≡◌ {A = ℕ} 0 1 = cc in omega arith)
 
-  pub rebuilt-in : located k t es came built i ≡ given (rebuilt s) → s + t ≤ built
+  pub rebuilt-in : given (Rebuilt s) ≡ located k t es came built i → s + t ≤ built
   rebuilt-in e = let f = fine e in go (ltb (standing es i) (length es)) f.1 f.0
     where
-      go : (b : Bool) → pick b (arrived (standing es i * t)) (rebuilt (i * t)) ≡ rebuilt s → Asked (length es) came built k t i → s + t ≤ built
+      go : (b : Bool) → pick b (Arrived (standing es i * t)) (Rebuilt (i * t)) ≡ Rebuilt s → Asked (length es) came built k t i → s + t ≤ built
       go true m a = absurd (let z : ◌≡◌ {A = ℕ} 0 1 = cc in omega arith)
       go false m a =
           let z : i * t ≡ s = cc in

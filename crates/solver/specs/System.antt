@@ -1,6 +1,6 @@
 -- Document 01, 'Solver and symbols': the system of a call, group by group from RFC 6330, when a call is refused, and what it leaves.
 -- Assumes nothing.
-use Rattle.std.specs.Prelude.{◌≡◌, Bool, not, List, ℕ, ◌+◌, ◌-◌, ◌*◌, ◌≤◌, ◌<◌, eqb, ltb, length, get_or}
+use Rattle.std.specs.Prelude.{◌≡◌, Bool, not, List, ℕ, ◌+◌, ◌-◌, ◌*◌, ◌≤◌, ◌<◌, eqb, ltb, length, get_or, Result, Ok, Err}
 use Rattle.field.specs.Answer.{Outcome, given, refused, unless, code_of, before}
 use Rattle.field.specs.Runs.{Written}
 use Rattle.headers.specs.Row.{verified, l_of}
@@ -14,8 +14,8 @@ use Rattle.linear.specs.Bytes.{cell}
 use Rattle.elimination.specs.Verdict.{Means}
 use Rattle.solver.specs.Display.{any_large}
 use Rattle.solver.specs.Order.{Sendable, isi_rows, isi_of, place_of}
-use Rattle.solver.specs.declared.solver.Solution.{Solution}
-use Rattle.solver.specs.declared.solver.Solution.TheVariants.{Given, Refused}
+use Rattle.field.specs.declared.refusal.Refusal.{Refusal}
+use Rattle.elimination.specs.declared.verdict.Verdict.{Verdict}
 
 -- ---- how many equations
 
@@ -127,11 +127,11 @@ admitted r v k t es xs a d o = solvable r (length v) k t (length es) (any_large 
 
 -- The contract. Before, the stores a, d and o; after, a₁, d₁ and o₁. A call that is not refused answers for its system, and leaves 0 in the used
 -- parts of a and d.
-abbrev pub Solves : Row → List ℕ → ℕ → ℕ → (es xs a d o a₁ d₁ o₁ : List ℕ) → Solution → Type 0
-Solves r v k t es xs a d o a₁ d₁ o₁ (Given verdict) =
+abbrev pub Solves : Row → List ℕ → ℕ → ℕ → (es xs a d o a₁ d₁ o₁ : List ℕ) → Result Verdict Refusal → Type 0
+Solves r v k t es xs a d o a₁ d₁ o₁ (Ok verdict) =
     (admitted r v k t es xs a d o ≡ given tt)
     × Means (l_of r) t (system_of r v k t es xs) o o₁ verdict
     × Written (λ _. 0) a a₁ 0 (equations r k (length es) * l_of r)
     × Written (λ _. 0) d d₁ 0 (equations r k (length es) * t)
-Solves r v k t es xs a d o a₁ d₁ o₁ (Refused why) =
+Solves r v k t es xs a d o a₁ d₁ o₁ (Err why) =
     (admitted r v k t es xs a d o ≡ refused (code_of why)) × (a₁ ≡ a) × (d₁ ≡ d) × (o₁ ≡ o)

@@ -1,39 +1,40 @@
 // The intermediate symbols of a block, out of the packets that arrived.
 ghost use Rattle.std.specs.Prelude.{◌≡◌, ◌≤◌};
-ghost use Rattle.field.specs.Answer.{done};
+ghost use Rattle.field.specs.Answer.{outcome};
 ghost use Rattle.headers.specs.Row.{Obeys};
 ghost use Rattle.solver.specs.System.{Solves, room_to_solve, solvable};
 
 use crate::beneath::{call, esis, sizes};
 use elimination::verdict::Verdict;
-use field::refusal::{Answer, Refusal};
+use field::refusal::Refusal;
 use headers::beneath::row;
 use headers::row::Row;
 
-// A verdict on the system of the call, or a refusal.
-#[derive(Clone, Copy)]
-pub enum Solution {
-    Given(Verdict),
-    Refused(Refusal),
-}
-
 // Refusal 8: a store is too short for M rows of L octets, for M symbols, or for L symbols.
-fn room(r: Row, k: u32, t: u16, n: usize, rows: usize, values: usize, out: usize) -> Answer
+fn room(
+    r: Row,
+    k: u32,
+    t: u16,
+    n: usize,
+    rows: usize,
+    values: usize,
+    out: usize,
+) -> Result<(), Refusal>
     requires { Obeys r × (k ≤ r.kp) × (n ≤ 65535) }
-    ensures { done result ≡ room_to_solve r k t n rows values out }
+    ensures { outcome result ≡ room_to_solve r k t n rows values out }
 {
     let m = sizes::m(r, k, n);
     let l = r.l as usize;
     if rows < m * l {
-        return Answer::Refused(Refusal::WrongLength);
+        return Err(Refusal::WrongLength);
     }
     if values < m * t as usize {
-        return Answer::Refused(Refusal::WrongLength);
+        return Err(Refusal::WrongLength);
     }
     if out < l * t as usize {
-        return Answer::Refused(Refusal::WrongLength);
+        return Err(Refusal::WrongLength);
     }
-    Answer::Done
+    Ok(())
 }
 
 // The refusals, on numbers alone.
@@ -48,33 +49,30 @@ fn may(
     rows: usize,
     values: usize,
     out: usize,
-) -> Answer
-    ensures { done result ≡ solvable r tables k t n large came rows values out }
+) -> Result<(), Refusal>
+    ensures { outcome result ≡ solvable r tables k t n large came rows values out }
 {
-    let fine = row::verify(r);
-    let Answer::Done = fine else {
-        return fine;
-    };
+    row::verify(r)?;
     if tables != 1024 {
-        return Answer::Refused(Refusal::BadTables);
+        return Err(Refusal::BadTables);
     }
     if large {
-        return Answer::Refused(Refusal::BadCount);
+        return Err(Refusal::BadCount);
     }
     if k < 1 {
-        return Answer::Refused(Refusal::BadCount);
+        return Err(Refusal::BadCount);
     }
     if k > r.kp {
-        return Answer::Refused(Refusal::BadCount);
+        return Err(Refusal::BadCount);
     }
     if n > 65535 {
-        return Answer::Refused(Refusal::BadCount);
+        return Err(Refusal::BadCount);
     }
     if t == 0 {
-        return Answer::Refused(Refusal::BadSize);
+        return Err(Refusal::BadSize);
     }
     if came != n * t as usize {
-        return Answer::Refused(Refusal::BadSize);
+        return Err(Refusal::BadSize);
     }
     room(r, k, t, n, rows, values, out)
 }
@@ -90,11 +88,11 @@ pub fn solve(
     rows: &mut [u8],
     values: &mut [u8],
     out: &mut [u8],
-) -> Solution
+) -> Result<Verdict, Refusal>
     ensures { Solves r tables.now k t esis.now symbols.now rows.old values.old out.old
         rows.new values.new out.new result }
 {
-    let fine = may(
+    may(
         r,
         tables.len(),
         k,
@@ -105,11 +103,6 @@ pub fn solve(
         rows.len(),
         values.len(),
         out.len(),
-    );
-    match fine {
-        Answer::Done => Solution::Given(call::run(
-            r, tables, k, t, esis, symbols, rows, values, out,
-        )),
-        Answer::Refused(why) => Solution::Refused(why),
-    }
+    )?;
+    Ok(call::run(r, tables, k, t, esis, symbols, rows, values, out))
 }

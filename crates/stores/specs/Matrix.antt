@@ -1,20 +1,16 @@
 -- The binary matrix over lent words (document 01, 'Matrices and slab'; matrix.rs): where an entry lies, which calls are refused,
 -- and what the others leave.
 -- Assumes nothing.
-use Rattle.std.specs.Prelude.{List, ℕ, ◌+◌, ◌-◌, ◌*◌, ◌/◌, ◌%◌, eqb, ltb, leb, length, get_or}
-use Rattle.field.specs.Answer.{Outcome, given, refused, unless, before, Does, done, code_of}
+use Rattle.std.specs.Prelude.{List, Result, ℕ, ◌+◌, ◌-◌, ◌*◌, ◌/◌, ◌%◌, eqb, ltb, leb, length, get_or}
+use Rattle.field.specs.Answer.{Outcome, given, unless, before, Does}
 use Rattle.field.specs.Choice.{pick}
 use Rattle.field.specs.Ones.{ones}
 use Rattle.field.specs.Runs.{Written, part, added}
-use Rattle.field.specs.declared.refusal.Answer.{Answer}
+use Rattle.field.specs.declared.refusal.Refusal.{Refusal}
 use Rattle.stores.specs.Bits.{bit_at, with_bit, crossed_from}
 use Rattle.stores.specs.Rows.{packed_to, Exchanged}
 use Rattle.stores.specs.Counting.{tally, AtFront}
 use Rattle.stores.specs.declared.matrix.DenseBinaryMatrix.{DenseBinaryMatrix}
-use Rattle.stores.specs.declared.matrix.Made.{Made}
-use Rattle.stores.specs.declared.matrix.Made.TheVariants as Mades
-use Rattle.stores.specs.declared.matrix.Count.{Count}
-use Rattle.stores.specs.declared.matrix.Count.TheVariants as Counts
 
 abbrev pub shape : ℕ → ℕ → DenseBinaryMatrix
 shape height width = record { height = height; width = width }
@@ -83,28 +79,19 @@ shrinkable len m new =
     (unless (ltb m.width new.width) 6
     (given tt))))
 
--- what the answers stand for
-abbrev pub matrix_outcome : Made → Outcome DenseBinaryMatrix
-matrix_outcome (Mades.Matrix m) = given m
-matrix_outcome (Mades.Refused why) = refused (code_of why)
-
-abbrev pub counted : Count → Outcome ℕ
-counted (Counts.Ones n) = given n
-counted (Counts.Refused why) = refused (code_of why)
-
 -- The calls. xs is the store at entry and ys at exit, r the answer.
 
-abbrev pub Cleared : List ℕ → ℕ → ℕ → Made → List ℕ → Type 0
+abbrev pub Cleared : List ℕ → ℕ → ℕ → Result DenseBinaryMatrix Refusal → List ℕ → Type 0
 Cleared xs height width =
-    Does matrix_outcome (before (stored (length xs) (shape height width)) (given (shape height width))) xs
+    Does (before (stored (length xs) (shape height width)) (given (shape height width))) xs
     (λ ys. Written (λ k. 0) xs ys 0 (words_of (shape height width)))
 
 abbrev pub got : List ℕ → DenseBinaryMatrix → ℕ → ℕ → Outcome ℕ
 got xs m i j = before (paired (length xs) m m.height i m.width j) (given (entry m xs i j))
 
-abbrev pub EntrySet : List ℕ → DenseBinaryMatrix → ℕ → ℕ → ℕ → Answer → List ℕ → Type 0
+abbrev pub EntrySet : List ℕ → DenseBinaryMatrix → ℕ → ℕ → ℕ → Result (Unit {0}) Refusal → List ℕ → Type 0
 EntrySet xs m i j v =
-    Does done (paired (length xs) m m.height i m.width j) xs
+    Does (paired (length xs) m m.height i m.width j) xs
     (λ ys. Written (λ k. with_bit (get_or xs (row_at m i + j / 64) 0) (j % 64) (one_of v)) xs ys (row_at m i + j / 64) 1)
 
 -- how many of the columns from `start` to `end` of row i are ones
@@ -112,33 +99,33 @@ abbrev pub ones_of : List ℕ → DenseBinaryMatrix → ℕ → ℕ → ℕ → 
 ones_of xs m i start end = before (spanned (length xs) m i start end) (given (tally (entry m xs i) start (end - start)))
 
 -- out is the list's memory at entry
-abbrev pub RowsListed : List ℕ → DenseBinaryMatrix → ℕ → ℕ → ℕ → List ℕ → Count → List ℕ → Type 0
+abbrev pub RowsListed : List ℕ → DenseBinaryMatrix → ℕ → ℕ → ℕ → List ℕ → Result ℕ Refusal → List ℕ → Type 0
 RowsListed xs m j start end out =
-    Does counted
+    Does
     (before (listable (length xs) m (length out) m.width j m.height start end) (given (length (ones (λ i. entry m xs i j) start (end - start)))))
     out (AtFront (ones (λ i. entry m xs i j) start (end - start)) out)
 
-abbrev pub ColumnsListed : List ℕ → DenseBinaryMatrix → ℕ → ℕ → List ℕ → Count → List ℕ → Type 0
+abbrev pub ColumnsListed : List ℕ → DenseBinaryMatrix → ℕ → ℕ → List ℕ → Result ℕ Refusal → List ℕ → Type 0
 ColumnsListed xs m i start out =
-    Does counted
+    Does
     (before (listable (length xs) m (length out) m.height i m.width start m.width) (given (length (ones (entry m xs i) start (m.width - start)))))
     out (AtFront (ones (entry m xs i) start (m.width - start)) out)
 
-abbrev pub RowsSwapped : List ℕ → DenseBinaryMatrix → ℕ → ℕ → Answer → List ℕ → Type 0
+abbrev pub RowsSwapped : List ℕ → DenseBinaryMatrix → ℕ → ℕ → Result (Unit {0}) Refusal → List ℕ → Type 0
 RowsSwapped xs m i j =
-    Does done (paired (length xs) m m.height i m.height j) xs (λ ys. Exchanged xs ys (row_at m i) (row_at m j) (row_words m.width))
+    Does (paired (length xs) m m.height i m.height j) xs (λ ys. Exchanged xs ys (row_at m i) (row_at m j) (row_words m.width))
 
-abbrev pub ColumnsSwapped : List ℕ → DenseBinaryMatrix → ℕ → ℕ → ℕ → Answer → List ℕ → Type 0
+abbrev pub ColumnsSwapped : List ℕ → DenseBinaryMatrix → ℕ → ℕ → ℕ → Result (Unit {0}) Refusal → List ℕ → Type 0
 ColumnsSwapped xs m i j start =
-    Does done (paired (length xs) m m.width i m.width j) xs
+    Does (paired (length xs) m m.width i m.width j) xs
     (λ ys. Written (crossed_from xs (row_words m.width) i j start) xs ys 0 (words_of m))
 
-abbrev pub RowsAdded : List ℕ → DenseBinaryMatrix → ℕ → ℕ → Answer → List ℕ → Type 0
+abbrev pub RowsAdded : List ℕ → DenseBinaryMatrix → ℕ → ℕ → Result (Unit {0}) Refusal → List ℕ → Type 0
 RowsAdded xs m dest src =
-    Does done (summed (length xs) m dest src) xs
+    Does (summed (length xs) m dest src) xs
     (λ ys. Written (added xs (row_at m dest) (part xs (row_at m src) (row_words m.width))) xs ys (row_at m dest) (row_words m.width))
 
-abbrev pub Resized : List ℕ → DenseBinaryMatrix → ℕ → ℕ → Made → List ℕ → Type 0
+abbrev pub Resized : List ℕ → DenseBinaryMatrix → ℕ → ℕ → Result DenseBinaryMatrix Refusal → List ℕ → Type 0
 Resized xs m height width =
-    Does matrix_outcome (before (shrinkable (length xs) m (shape height width)) (given (shape height width))) xs
+    Does (before (shrinkable (length xs) m (shape height width)) (given (shape height width))) xs
     (λ ys. Written (packed_to xs (row_words width) (row_words m.width)) xs ys 0 (words_of (shape height width)))

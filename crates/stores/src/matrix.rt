@@ -1,110 +1,87 @@
 // Ported from matrix.rs of raptorq 2.0.1 (Apache-2.0) and changed.
 // The binary matrix over lent words: a row takes ceil(width / 64) of them, column c is bit c mod 64 of
 // its word c / 64. Row operations work on whole words; `get`, the counts and the lists never read a bit past the width.
-ghost use Rattle.std.specs.Prelude.{◌≡◌, ◌-◌, ◌<◌, ltb};
-ghost use Rattle.field.specs.Answer.{done, octet_outcome};
+ghost use Rattle.std.specs.Prelude.{◌≡◌};
+ghost use Rattle.field.specs.Answer.{outcome};
 ghost use Rattle.stores.specs.Matrix.{Cleared, ColumnsListed, ColumnsSwapped, EntrySet, Resized, RowsAdded, RowsListed, RowsSwapped};
-ghost use Rattle.stores.specs.Matrix.{counted, got, limited, listable, one_of, ones_of, paired, ranged, row_words, shape, shrinkable, spanned, stored};
+ghost use Rattle.stores.specs.Matrix.{got, limited, listable, ones_of, paired, ranged, shape, shrinkable, spanned, stored};
 
+use crate::beneath::words::row_word_width;
 use crate::beneath::{lists, words};
-use field::octet;
-use field::refusal::{Answer, Refusal};
+use field::refusal::Refusal;
 
 // How many rows and columns there are.
-#[derive(Clone, Copy)]
+#[derive(Clone, Copy, Debug, PartialEq, Eq)]
 pub struct DenseBinaryMatrix {
     pub height: usize,
     pub width: usize,
 }
 
-#[derive(Clone, Copy)]
-pub enum Made {
-    Matrix(DenseBinaryMatrix),
-    Refused(Refusal),
-}
-
-#[derive(Clone, Copy)]
-pub enum Count {
-    Ones(usize),
-    Refused(Refusal),
-}
-
-fn row_word_width(width: usize) -> usize
-    requires { width < 65536 }
-    ensures { result ≡ row_words width }
-{
-    (width + 63) / 64
-}
-
 // The refusals of a height and a width.
-fn limits(height: usize, width: usize) -> Answer
-    ensures { done result ≡ limited height width }
+pub fn limits(height: usize, width: usize) -> Result<(), Refusal>
+    ensures { outcome result ≡ limited height width }
 {
     if height > 131070 {
-        return Answer::Refused(Refusal::OutOfRange);
+        return Err(Refusal::OutOfRange);
     }
     if width > 65535 {
-        return Answer::Refused(Refusal::OutOfRange);
+        return Err(Refusal::OutOfRange);
     }
-    Answer::Done
+    Ok(())
 }
 
 // The refusals of every call on a matrix in `len` words: its numbers, then its store.
-fn store(len: usize, m: DenseBinaryMatrix) -> Answer
-    ensures { done result ≡ stored len m }
+fn store(len: usize, m: DenseBinaryMatrix) -> Result<(), Refusal>
+    ensures { outcome result ≡ stored len m }
 {
-    let height = m.height;
-    let width = m.width;
-    let fine = limits(height, width);
-    let Answer::Done = fine else {
-        return fine;
-    };
-    if len < height * row_word_width(width) {
-        return Answer::Refused(Refusal::WrongLength);
+    limits(m.height, m.width)?;
+    if len < m.height * row_word_width(m.width) {
+        return Err(Refusal::WrongLength);
     }
-    Answer::Done
+    Ok(())
 }
 
 // The refusals of a call on place i of n and place j of k.
-fn pair(len: usize, m: DenseBinaryMatrix, n: usize, i: usize, k: usize, j: usize) -> Answer
-    ensures { done result ≡ paired len m n i k j }
+fn pair(
+    len: usize,
+    m: DenseBinaryMatrix,
+    n: usize,
+    i: usize,
+    k: usize,
+    j: usize,
+) -> Result<(), Refusal>
+    ensures { outcome result ≡ paired len m n i k j }
 {
-    let fine = store(len, m);
-    let Answer::Done = fine else {
-        return fine;
-    };
+    store(len, m)?;
     if i >= n {
-        return Answer::Refused(Refusal::Outside);
+        return Err(Refusal::Outside);
     }
     if j >= k {
-        return Answer::Refused(Refusal::Outside);
+        return Err(Refusal::Outside);
     }
-    Answer::Done
+    Ok(())
 }
 
 // The refusals of a range of rows or columns.
-fn range(n: usize, start: usize, end: usize) -> Answer
-    ensures { done result ≡ ranged n start end }
+fn range(n: usize, start: usize, end: usize) -> Result<(), Refusal>
+    ensures { outcome result ≡ ranged n start end }
 {
     if start > end {
-        return Answer::Refused(Refusal::Outside);
+        return Err(Refusal::Outside);
     }
     if end > n {
-        return Answer::Refused(Refusal::Outside);
+        return Err(Refusal::Outside);
     }
-    Answer::Done
+    Ok(())
 }
 
 // The refusals of a count in row i.
-fn span(len: usize, m: DenseBinaryMatrix, i: usize, start: usize, end: usize) -> Answer
-    ensures { done result ≡ spanned len m i start end }
+fn span(len: usize, m: DenseBinaryMatrix, i: usize, start: usize, end: usize) -> Result<(), Refusal>
+    ensures { outcome result ≡ spanned len m i start end }
 {
-    let fine = store(len, m);
-    let Answer::Done = fine else {
-        return fine;
-    };
+    store(len, m)?;
     if i >= m.height {
-        return Answer::Refused(Refusal::Outside);
+        return Err(Refusal::Outside);
     }
     range(m.width, start, end)
 }
@@ -119,66 +96,42 @@ fn list(
     k: usize,
     start: usize,
     end: usize,
-) -> Answer
-    ensures { done result ≡ listable len m room n i k start end }
+) -> Result<(), Refusal>
+    ensures { outcome result ≡ listable len m room n i k start end }
 {
-    let fine = store(len, m);
-    let Answer::Done = fine else {
-        return fine;
-    };
-    if short(room, start, end) {
-        return Answer::Refused(Refusal::WrongLength);
+    store(len, m)?;
+    if room < end.saturating_sub(start) {
+        return Err(Refusal::WrongLength);
     }
     if i >= n {
-        return Answer::Refused(Refusal::Outside);
+        return Err(Refusal::Outside);
     }
     range(k, start, end)
 }
 
-// Whether a list has too little room; a start above the end asks none.
-fn short(room: usize, start: usize, end: usize) -> bool
-    ensures { result ≡ ltb room (end - start) }
-{
-    if end < start {
-        return false;
-    }
-    room < end - start
-}
-
 // The refusals of a new shape.
-fn shrink(len: usize, m: DenseBinaryMatrix, height: usize, width: usize) -> Answer
-    ensures { done result ≡ shrinkable len m (shape height width) }
+fn shrink(len: usize, m: DenseBinaryMatrix, height: usize, width: usize) -> Result<(), Refusal>
+    ensures { outcome result ≡ shrinkable len m (shape height width) }
 {
-    let small = limits(height, width);
-    let Answer::Done = small else {
-        return small;
-    };
-    let fine = store(len, m);
-    let Answer::Done = fine else {
-        return fine;
-    };
+    limits(height, width)?;
+    store(len, m)?;
     if height > m.height {
-        return Answer::Refused(Refusal::Outside);
+        return Err(Refusal::Outside);
     }
     if width > m.width {
-        return Answer::Refused(Refusal::Outside);
+        return Err(Refusal::Outside);
     }
-    Answer::Done
+    Ok(())
 }
 
 // A matrix of zeros; the bits past the width are zeros too.
-pub fn new(ws: &mut [u64], height: usize, width: usize) -> Made
+pub fn new(ws: &mut [u64], height: usize, width: usize) -> Result<DenseBinaryMatrix, Refusal>
     ensures { Cleared ws.old height width result ws.new }
 {
     let m = DenseBinaryMatrix { height, width };
-    let fine = store(ws.len(), m);
-    match fine {
-        Answer::Done => {
-            words::clear(ws, height * row_word_width(width));
-            Made::Matrix(m)
-        }
-        Answer::Refused(why) => Made::Refused(why),
-    }
+    store(ws.len(), m)?;
+    words::clear(ws, height * row_word_width(width));
+    Ok(m)
 }
 
 pub fn height(m: DenseBinaryMatrix) -> usize
@@ -193,46 +146,40 @@ pub fn width(m: DenseBinaryMatrix) -> usize
     m.width
 }
 
-pub fn get(ws: &[u64], m: DenseBinaryMatrix, i: usize, j: usize) -> octet::Answer
-    ensures { octet_outcome result ≡ got ws.now m i j }
+pub fn get(ws: &[u64], m: DenseBinaryMatrix, i: usize, j: usize) -> Result<u8, Refusal>
+    ensures { outcome result ≡ got ws.now m i j }
 {
-    let fine = pair(ws.len(), m, m.height, i, m.width, j);
-    match fine {
-        Answer::Done => octet::Answer::Octet(words::get(ws, i * row_word_width(m.width), j) as u8),
-        Answer::Refused(why) => octet::Answer::Refused(why),
-    }
-}
-
-// The bit that an octet stands for.
-fn one_of(value: u8) -> u64
-    ensures { result ≡ one_of value }
-{
-    if value == 0 { 0 } else { 1 }
+    pair(ws.len(), m, m.height, i, m.width, j)?;
+    Ok(words::get(ws, i * row_word_width(m.width), j) as u8)
 }
 
 // 0 clears the entry, any other octet sets it.
-pub fn set(ws: &mut [u64], m: DenseBinaryMatrix, i: usize, j: usize, value: u8) -> Answer
+pub fn set(
+    ws: &mut [u64],
+    m: DenseBinaryMatrix,
+    i: usize,
+    j: usize,
+    value: u8,
+) -> Result<(), Refusal>
     ensures { EntrySet ws.old m i j value result ws.new }
 {
-    let fine = pair(ws.len(), m, m.height, i, m.width, j);
-    let Answer::Done = fine else {
-        return fine;
-    };
-    words::put(ws, i * row_word_width(m.width), j, one_of(value));
-    Answer::Done
+    pair(ws.len(), m, m.height, i, m.width, j)?;
+    words::put(ws, i * row_word_width(m.width), j, u64::from(value != 0));
+    Ok(())
 }
 
 // How many of the columns from `start` to `end` of row i are ones.
-pub fn count_ones(ws: &[u64], m: DenseBinaryMatrix, i: usize, start: usize, end: usize) -> Count
-    ensures { counted result ≡ ones_of ws.now m i start end }
+pub fn count_ones(
+    ws: &[u64],
+    m: DenseBinaryMatrix,
+    i: usize,
+    start: usize,
+    end: usize,
+) -> Result<usize, Refusal>
+    ensures { outcome result ≡ ones_of ws.now m i start end }
 {
-    let fine = span(ws.len(), m, i, start, end);
-    match fine {
-        Answer::Done => {
-            Count::Ones(words::count(ws, i * row_word_width(m.width), start, end - start))
-        }
-        Answer::Refused(why) => Count::Refused(why),
-    }
+    span(ws.len(), m, i, start, end)?;
+    Ok(words::count(ws, i * row_word_width(m.width), start, end - start))
 }
 
 // The rows from `start` to `end` that have a one in column j, at the front of `out`; answers how many.
@@ -243,16 +190,11 @@ pub fn get_ones_in_column(
     start: usize,
     end: usize,
     out: &mut [u32],
-) -> Count
+) -> Result<usize, Refusal>
     ensures { RowsListed ws.now m j start end out.old result out.new }
 {
-    let fine = list(ws.len(), m, out.len(), m.width, j, m.height, start, end);
-    match fine {
-        Answer::Done => {
-            Count::Ones(lists::in_column(ws, row_word_width(m.width), j, start, end - start, out))
-        }
-        Answer::Refused(why) => Count::Refused(why),
-    }
+    list(ws.len(), m, out.len(), m.width, j, m.height, start, end)?;
+    Ok(lists::in_column(ws, row_word_width(m.width), j, start, end - start, out))
 }
 
 // The columns from `start` on that have a one in row i, at the front of `out`; answers how many.
@@ -262,48 +204,42 @@ pub fn query_non_zero_columns(
     i: usize,
     start: usize,
     out: &mut [u32],
-) -> Count
+) -> Result<usize, Refusal>
     ensures { ColumnsListed ws.now m i start out.old result out.new }
 {
-    let fine = list(ws.len(), m, out.len(), m.height, i, m.width, start, m.width);
-    match fine {
-        Answer::Done => {
-            Count::Ones(lists::in_row(ws, i * row_word_width(m.width), start, m.width - start, out))
-        }
-        Answer::Refused(why) => Count::Refused(why),
-    }
+    list(ws.len(), m, out.len(), m.height, i, m.width, start, m.width)?;
+    Ok(lists::in_row(ws, i * row_word_width(m.width), start, m.width - start, out))
 }
 
 // Rows i and j change places, whole words.
-pub fn swap_rows(ws: &mut [u64], m: DenseBinaryMatrix, i: usize, j: usize) -> Answer
+pub fn swap_rows(ws: &mut [u64], m: DenseBinaryMatrix, i: usize, j: usize) -> Result<(), Refusal>
     ensures { RowsSwapped ws.old m i j result ws.new }
 {
-    let fine = pair(ws.len(), m, m.height, i, m.height, j);
-    let Answer::Done = fine else {
-        return fine;
-    };
+    pair(ws.len(), m, m.height, i, m.height, j)?;
     if i == j {
-        return Answer::Done;
+        return Ok(());
     }
     let n = row_word_width(m.width);
     words::swap(ws, n, i * n, j * n);
-    Answer::Done
+    Ok(())
 }
 
 // Row `src` is added to row `dest`, whole words.
-pub fn add_assign_rows(ws: &mut [u64], m: DenseBinaryMatrix, dest: usize, src: usize) -> Answer
+pub fn add_assign_rows(
+    ws: &mut [u64],
+    m: DenseBinaryMatrix,
+    dest: usize,
+    src: usize,
+) -> Result<(), Refusal>
     ensures { RowsAdded ws.old m dest src result ws.new }
 {
-    let fine = pair(ws.len(), m, m.height, dest, m.height, src);
-    let Answer::Done = fine else {
-        return fine;
-    };
+    pair(ws.len(), m, m.height, dest, m.height, src)?;
     if dest == src {
-        return Answer::Refused(Refusal::SamePlace);
+        return Err(Refusal::SamePlace);
     }
     let n = row_word_width(m.width);
     words::add(ws, n, dest * n, src * n);
-    Answer::Done
+    Ok(())
 }
 
 // Columns i and j change places in the rows from `start` on. The rows before stay: the crate's caller knows that the two agree there.
@@ -313,27 +249,24 @@ pub fn swap_columns(
     i: usize,
     j: usize,
     start: usize,
-) -> Answer
+) -> Result<(), Refusal>
     ensures { ColumnsSwapped ws.old m i j start result ws.new }
 {
-    let fine = pair(ws.len(), m, m.width, i, m.width, j);
-    let Answer::Done = fine else {
-        return fine;
-    };
+    pair(ws.len(), m, m.width, i, m.width, j)?;
     words::cross_rows(ws, row_word_width(m.width), m.height, i, j, start);
-    Answer::Done
+    Ok(())
 }
 
 // The first rows and columns alone: the rows are packed to the front, and the words past the new end stay.
-pub fn resize(ws: &mut [u64], m: DenseBinaryMatrix, height: usize, width: usize) -> Made
+pub fn resize(
+    ws: &mut [u64],
+    m: DenseBinaryMatrix,
+    height: usize,
+    width: usize,
+) -> Result<DenseBinaryMatrix, Refusal>
     ensures { Resized ws.old m height width result ws.new }
 {
-    let fine = shrink(ws.len(), m, height, width);
-    match fine {
-        Answer::Done => {
-            words::pack(ws, height, row_word_width(width), row_word_width(m.width));
-            Made::Matrix(DenseBinaryMatrix { height, width })
-        }
-        Answer::Refused(why) => Made::Refused(why),
-    }
+    shrink(ws.len(), m, height, width)?;
+    words::pack(ws, height, row_word_width(width), row_word_width(m.width));
+    Ok(DenseBinaryMatrix { height, width })
 }

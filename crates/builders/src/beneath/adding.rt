@@ -14,13 +14,14 @@ use headers::beneath::tuple;
 use headers::ids;
 use headers::ids::Isi;
 use stores::beneath::words;
+use stores::beneath::words::row_word_width;
 use stores::matrix::DenseBinaryMatrix;
 
 pub fn add_one(ws: &mut [u64], m: DenseBinaryMatrix, i: usize, j: usize)
     requires { Lies m ws.old × (i < m.height) × (j < m.width) }
     ensures { Added (λ r c. adds r c i j) ws.old ws.new m }
 {
-    let at = i * ((m.width + 63) / 64);
+    let at = i * row_word_width(m.width);
     let v = words::get(ws, at, j);
     words::put(ws, at, j, 1 - v);
 }
@@ -30,8 +31,7 @@ fn crossings(ws: &mut [u64], m: DenseBinaryMatrix, s: usize, w: usize, b: usize,
     requires { Lies m ws.old × Crosses s w p × (b ≡ w - s) × (s ≤ m.height) × (w ≤ m.width) }
     ensures { Added (λ r c. sum (w - s) (turn s r c)) ws.old ws.new m }
 {
-    let mut k = 0;
-    while k < b {
+    for k in 0..b {
         let a = 1 + k / s;
         let x = k % s;
         let y = (x + a) % s;
@@ -39,7 +39,6 @@ fn crossings(ws: &mut [u64], m: DenseBinaryMatrix, s: usize, w: usize, b: usize,
         add_one(ws, m, x, k);
         add_one(ws, m, y, k);
         add_one(ws, m, z, k);
-        k += 1;
     }
 }
 
@@ -48,10 +47,8 @@ fn identity(ws: &mut [u64], m: DenseBinaryMatrix, s: usize, b: usize)
     requires { Lies m ws.old × (s ≤ m.height) × (b + s ≤ m.width) }
     ensures { Added (λ r c. sum s (λ k. adds r c k (b + k))) ws.old ws.new m }
 {
-    let mut k = 0;
-    while k < s {
+    for k in 0..s {
         add_one(ws, m, k, b + k);
-        k += 1;
     }
 }
 
@@ -60,11 +57,9 @@ fn endings(ws: &mut [u64], m: DenseBinaryMatrix, s: usize, w: usize, p: usize)
     requires { Lies m ws.old × (0 < p) × (s ≤ 65535) × (s ≤ m.height) × (w + p ≤ m.width) }
     ensures { Added (λ r c. sum s (λ k. plus (adds r c k (w + k % p)) (adds r c k (w + (k + 1) % p)))) ws.old ws.new m }
 {
-    let mut k = 0;
-    while k < s {
+    for k in 0..s {
         add_one(ws, m, k, w + k % p);
         add_one(ws, m, k, w + (k + 1) % p);
-        k += 1;
     }
 }
 
@@ -83,11 +78,8 @@ fn add_places(ws: &mut [u64], m: DenseBinaryMatrix, i: usize, list: &[u32], n: u
     requires { Lies m ws.old × (i < m.height) × (n ≤ length list.now) × ((k : ℕ) → k < n → get_or list.now k 0 < m.width) }
     ensures { Added (λ r c. sum n (λ k. adds r c i (get_or list.now k 0))) ws.old ws.new m }
 {
-    let mut k = 0;
-    while k < n {
-        let j = list[k] as usize;
-        add_one(ws, m, i, j);
-        k += 1;
+    for j in &list[..n] {
+        add_one(ws, m, i, *j as usize);
     }
 }
 
@@ -128,10 +120,8 @@ pub fn enc_rows(
     requires { Lies m ws.old × (from + length isis.now ≤ m.height) × Walks w p p1 × Ready tables.now j w p1 × (w + p ≤ m.width) }
     ensures { Added (enc_rows tables.now isis.now j w p p1 from) ws.old ws.new m }
 {
-    let mut k = 0;
-    while k < isis.len() {
-        let x = ids::beneath::row_number(isis[k]);
+    for (k, isi) in isis.iter().enumerate() {
+        let x = ids::beneath::row_number(*isi);
         enc_row(ws, m, from + k, tables, x, j, w, p, p1);
-        k += 1;
     }
 }

@@ -16,11 +16,8 @@ fn set_ones(out: &mut [u8], at: usize, l: usize, list: &[u32], n: usize)
     requires { Markable list.now out.old at n l }
     ensures { Written (λ c. sum n (λ k. unit c (get_or list.now k 0))) out.old out.new at l }
 {
-    let mut i = 0;
-    while i < n {
-        let c = list[i] as usize;
-        out[at + c] = 1;
-        i += 1;
+    for &c in &list[..n] {
+        out[at + c as usize] = 1;
     }
 }
 

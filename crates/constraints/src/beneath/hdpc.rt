@@ -13,6 +13,7 @@ use field::doubling;
 use headers::beneath::rng;
 
 // The rows that have a one in column c of MT, but for the last column: a, and b after it.
+#[tactic(auto, unfolding(crate::specs::Hdpc::first))]
 fn first_one(tables: &[u32], h: usize, c: usize) -> usize
     requires { (length tables.now ≡ 1024) × (2 ≤ h) × (h ≤ 65535) × (c < 65535) }
     ensures { (result ≡ first tables.now h c) × (result < h) }
@@ -20,6 +21,7 @@ fn first_one(tables: &[u32], h: usize, c: usize) -> usize
     rng::rand(tables, (c + 1) as u32, 6, h as u32) as usize
 }
 
+#[tactic(auto, unfolding(crate::specs::Hdpc::first, crate::specs::Hdpc::second))]
 fn second_one(tables: &[u32], h: usize, c: usize, a: usize) -> usize
     requires { (length tables.now ≡ 1024) × (2 ≤ h) × (h ≤ 65535) × (c < 65535) × (a < h) × (a ≡ first tables.now h c) }
     ensures { result ≡ second tables.now h c }
@@ -31,10 +33,8 @@ fn unit_column(out: &mut [u8], at: usize, h: usize, l: usize, c: usize, one: usi
     requires { GridRoom out.old at h l c }
     ensures { Column (λ r. unit r one) out.old out.new at h l c }
 {
-    let mut i = 0;
-    while i < h {
+    for i in 0..h {
         out[at + i * l + c] = unit(i, one);
-        i += 1;
     }
 }
 
@@ -44,11 +44,9 @@ fn alpha_column(out: &mut [u8], at: usize, h: usize, l: usize, c: usize)
     ensures { Column power out.old out.new at h l c }
 {
     let mut x: u8 = 1;
-    let mut i = 0;
-    while i < h {
+    for i in 0..h {
         out[at + i * l + c] = x;
         x = doubling::double(x);
-        i += 1;
     }
 }
 
@@ -57,11 +55,9 @@ fn next_column(out: &mut [u8], at: usize, h: usize, l: usize, c: usize, a: usize
     requires { GridRoom out.old at h l (c + 1) }
     ensures { Column (λ r. plus (plus (doubled (get_or out.old (at + r * l + c + 1) 0)) (unit r a)) (unit r b)) out.old out.new at h l c }
 {
-    let mut i = 0;
-    while i < h {
+    for i in 0..h {
         let j = at + i * l + c;
         out[j] = doubling::double(out[j + 1]) ^ unit(i, a) ^ unit(i, b);
-        i += 1;
     }
 }
 
@@ -71,32 +67,15 @@ pub fn generate_hdpc_rows(tables: &[u32], out: &mut [u8], at: usize, l: usize, h
     ensures { Written (cells l (hdpc tables.now (l - h) h)) out.old out.new at (h * l) }
 {
     let n = l - h;
-    let mut c = l;
-    while n < c {
-        c -= 1;
+    for c in (n..l).rev() {
         unit_column(out, at, h, l, c, c - n);
     }
-    c -= 1;
-    alpha_column(out, at, h, l, c);
-    while 0 < c {
-        c -= 1;
+    alpha_column(out, at, h, l, n - 1);
+    for c in (0..n - 1).rev() {
         let a = first_one(tables, h, c);
         let b = second_one(tables, h, c, a);
         next_column(out, at, h, l, c, a, b);
     }
-}
-
-// Alpha to the power i.
-fn alpha(i: usize) -> u8
-    ensures { result ≡ power i }
-{
-    let mut x: u8 = 1;
-    let mut k = 0;
-    while k < i {
-        x = doubling::double(x);
-        k += 1;
-    }
-    x
 }
 
 // What MT, of n columns, has in row i and column c.
@@ -105,7 +84,7 @@ fn mt(tables: &[u32], n: usize, h: usize, i: usize, c: usize) -> u8
     ensures { result ≡ mt tables.now n h i c }
 {
     if c + 1 == n {
-        return alpha(i);
+        return doubling::power(i);
     }
     let a = first_one(tables, h, c);
     unit(i, a) ^ unit(i, second_one(tables, h, c, a))
@@ -118,9 +97,7 @@ pub fn row(tables: &[u32], out: &mut [u8], at: usize, l: usize, h: usize, i: usi
 {
     let n = l - h;
     let mut x: u8 = 0;
-    let mut c = n;
-    while 0 < c {
-        c -= 1;
+    for c in (0..n).rev() {
         x = doubling::double(x) ^ mt(tables, n, h, i, c);
         out[at + c] = x;
     }

@@ -1,8 +1,6 @@
 // The LDPC rows, one octet to a column, each as the RFC's sum. The rules of a row keep its ones apart, so that the crate's `set` agrees.
 ghost use Rattle.std.specs.Prelude.{◌≡◌, ◌+◌, ◌-◌, ◌/◌, ◌%◌, ◌<◌, ◌≤◌, length};
-ghost use Rattle.field.specs.Octet.{plus};
 ghost use Rattle.field.specs.Runs.{Written};
-ghost use Rattle.field.specs.Sum.{unit};
 ghost use Rattle.constraints.specs.Ldpc.{Crosses, crossed, ldpc};
 
 use crate::beneath::unit::{one_of, unit};
@@ -30,35 +28,22 @@ fn crossings(out: &mut [u8], at: usize, s: usize, w: usize, b: usize, p: usize, 
 {
     let mut a = 1;
     let mut x = 0;
-    let mut c = 0;
-    while c < b {
+    for c in 0..b {
         let y = step(x, a, s);
         let z = step(y, a, s);
         out[at + c] = unit(r, x) ^ unit(r, y) ^ unit(r, z);
         a = next_step(a, x, s);
         x = step(x, 1, s);
-        c += 1;
     }
 }
 
-// n octets: ones at x and y, added up.
-fn two_of(out: &mut [u8], at: usize, n: usize, x: usize, y: usize)
-    requires { at + n ≤ length out.old }
-    ensures { Written (λ k. plus (unit k x) (unit k y)) out.old out.new at n }
-{
-    let mut k = 0;
-    while k < n {
-        out[at + k] = unit(k, x) ^ unit(k, y);
-        k += 1;
-    }
-}
-
-// Row r, from place `at` of a store on.
+// Row r, from place `at` of a store on. The two ones of its last p columns do not meet, since p is at least 3.
 pub fn row(out: &mut [u8], at: usize, s: usize, w: usize, b: usize, p: usize, r: usize)
     requires { Crosses s w p × (b ≡ w - s) × (r < s) × (at + (w + p) ≤ length out.old) }
     ensures { Written (ldpc s w p r) out.old out.new at (w + p) }
 {
     crossings(out, at, s, w, b, p, r);
     one_of(out, at + b, s, r);
-    two_of(out, at + w, p, r % p, (r + 1) % p);
+    one_of(out, at + w, p, r % p);
+    out[at + w + (r + 1) % p] = 1;
 }

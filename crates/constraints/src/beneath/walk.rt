@@ -25,11 +25,9 @@ fn lt_places(list: &mut [u32], w: u32, a: u32, d: usize, b: u32)
     ensures { Laid (lt_places w a d b) list.old list.new 0 }
 {
     let mut x = b;
-    let mut i = 0;
-    while i < d {
+    for i in 0..d {
         list[i] = x;
         x = (x + a) % w;
-        i += 1;
     }
 }
 
@@ -38,12 +36,10 @@ fn pi_places(list: &mut [u32], from: usize, w: u32, p: u32, p1: u32, a: u32, d: 
     ensures { Laid (pi_places w p p1 a d b) list.old list.new from }
 {
     let mut x = b;
-    let mut i = 0;
-    while i < d {
+    for i in 0..d {
         let y = land(p, p1, a, x);
         list[from + i] = w + y;
         x = (y + a) % p1;
-        i += 1;
     }
 }
 

@@ -12,11 +12,10 @@ pub fn rebuild(r: Row, tables: &[u32], k: u32, t: u16, intermediates: &[u8], out
     ensures { Written (source_octet tables.now r t intermediates.now) out.old out.new 0 (k * t) }
 {
     let n = t as usize;
-    let mut i: u32 = 0;
-    while i < k {
+    for i in 0..k {
         let from = i as usize * n;
         let end = from + n;
-        encoder::encode(r, tables, k, t, i, intermediates, &mut out[from..end]);
-        i += 1;
+        // Nothing is refused: what `Rebuildable` asks is what an encoding asks.
+        let _ = encoder::encode(r, tables, k, t, i, intermediates, &mut out[from..end]);
     }
 }

@@ -4,7 +4,7 @@ ghost use Rattle.field.specs.Choice.{pick};
 ghost use Rattle.delivery.specs.Layout.{count_of};
 
 // What is passed over: the packets of other blocks, so many; and whether the last packet is not whole.
-#[derive(Clone, Copy)]
+#[derive(Clone, Copy, Debug, PartialEq, Eq)]
 pub struct Passed {
     pub others: u64,
     pub cut: bool,

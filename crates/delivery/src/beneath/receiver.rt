@@ -1,127 +1,121 @@
 // A delivery from its bytes to its source block, or to the reason why not: opened, heard packet by packet over the lent memory of an intake, and concluded.
 ghost use Rattle.std.specs.Prelude.{◌≡◌, ◌+◌, ◌*◌, ◌≤◌, ◌<◌, length, take};
 ghost use Rattle.field.specs.Answer.{given};
-ghost use Rattle.intake.specs.Night.{Holding};
 ghost use Rattle.intake.specs.State.{k_in, l_in, row_in, t_in, tables_in};
 ghost use Rattle.delivery.specs.Layout.{is_own, passed_of, t_of};
 ghost use Rattle.delivery.specs.Screen.{screen as Screen·screen};
 ghost use Rattle.delivery.specs.Received.{Comes, InRoom, Leaves, Rebuildable};
-ghost use Rattle.delivery.specs.Hearing.{ConcludesHeld, HearsMore, OpenedSmall, Opens, Restorable, Roomy, stretch_at, stretch_of};
+ghost use Rattle.delivery.specs.Hearing.{ConcludesHeld, HearsMore, Held, OpenedSmall, Opens, Restorable, Roomy, StaysLent, StoresStay, stretch_at, stretch_of};
 
 use crate::beneath::packets::Passed;
-use crate::beneath::screen::{Screened, Stop};
+use crate::beneath::screen::Stop;
 use crate::beneath::{block, layout, packets, screen};
 use elimination::verdict::Verdict;
-use field::refusal::{Answer, Part, Refusal};
 use headers::beneath::{front, util};
-use headers::row::{Checked, Row};
+use headers::row::Row;
 use intake::beneath::words;
 use intake::intake::{begin, packet, question};
-use solver::solver::Solution;
 
-// Ready: the bytes of a symbol, and those of the object.
-#[derive(Clone, Copy)]
-pub enum Opened {
-    Ready(usize, usize),
-    Stopped(Stop),
+// The lent memory of an intake.
+#[derive(Drop)]
+pub struct Memory<'a> {
+    pub state: &'a mut [u32],
+    pub pivots: &'a mut [u16],
+    pub rows: &'a mut [u8],
+    pub values: &'a mut [u8],
 }
 
-// Taken: the verdict on its system, the bytes of its object, so many, which stand at the front of the lent store where it is solved, and what was passed over.
-#[derive(Clone, Copy)]
-pub enum Received {
-    Taken(Verdict, usize, Passed),
-    Stopped(Stop),
+// Of a delivery that was opened: the bytes of a symbol, and those of the object.
+#[derive(Clone, Copy, Debug, PartialEq, Eq)]
+pub struct Ready {
+    pub symbol_size: usize,
+    pub object_size: usize,
+}
+
+// Of a delivery that was taken: the verdict on its system, the bytes of its object, so many, which stand at the front of the lent store where it is solved,
+// and what was passed over.
+#[derive(Clone, Copy, Debug, PartialEq, Eq)]
+pub struct Concluded {
+    pub verdict: Verdict,
+    pub size: usize,
+    pub passed: Passed,
 }
 
 // Of a delivery that may be taken.
-fn start(bytes: &[u8], state: &mut [u32], pivots: &[u16], rows: &[u8], values: &[u8]) -> Opened
-    requires bytes_value { Screen·screen bytes.now ≡ given tt }
-    requires roomy { Roomy (length state.old) (length pivots.now) (length rows.now) (length values.now) }
-    ensures opens { Opens bytes.now state.old pivots.now rows.now values.now state.new result }
+fn start(bytes: &[u8], memory: &mut Memory<'_>) -> Result<Ready, Stop>
+    requires passes { Screen·screen bytes.now ≡ given tt }
+    requires roomy { Roomy memory.old }
+    ensures opens { Opens bytes.now memory.old memory.new result }
     ensures opened_small { OpenedSmall result }
+    ensures stores_stay { StoresStay memory.old memory.new }
+    ensures stays_lent { StaysLent memory.old memory.new }
 {
     let o = layout::info(bytes);
-    // The screen has seen that the check makes a record, so this refusal, of any part, is never given.
-    let Checked::Value(r) = layout::row(bytes) else {
-        return Opened::Stopped(Stop::Refused(Refusal::BadRow(Part::Derived)));
-    };
-    let f = o.transfer_length as usize;
+    // Neither call refuses: the screen has asked what they ask.
+    let r = layout::row(bytes)?;
     let t = o.symbol_size;
-    let k = util::int_div_ceil(o.transfer_length, t as u64) as u32;
+    let k = util::int_div_ceil(o.transfer_length, u64::from(t)) as u32;
     let mut tables = [0u32; 1024];
     layout::read_tables(bytes, &mut tables);
-    let begun = begin(r, &tables, k, t, state, pivots, rows, values);
-    match begun {
-        Answer::Done => Opened::Ready(t as usize, f),
-        Answer::Refused(why) => Opened::Stopped(Stop::Refused(why)),
-    }
+    let (pivots, rows, values) = (&mut *memory.pivots, &mut *memory.rows, &mut *memory.values);
+    begin(r, &tables, k, t, memory.state, pivots, rows, values)?;
+    Ok(Ready {
+        symbol_size: usize::from(t),
+        object_size: o.transfer_length as usize,
+    })
 }
 
 // The head of a delivery, its first 4,128 bytes: what comes behind them is not looked at.
-pub fn open(bytes: &[u8], state: &mut [u32], pivots: &[u16], rows: &[u8], values: &[u8]) -> Opened
-    requires { Roomy (length state.old) (length pivots.now) (length rows.now) (length values.now) }
-    ensures opens { Opens bytes.now state.old pivots.now rows.now values.now state.new result }
+pub fn open(bytes: &[u8], memory: &mut Memory<'_>) -> Result<Ready, Stop>
+    requires { Roomy memory.old }
+    ensures opens { Opens bytes.now memory.old memory.new result }
     ensures opened_small { OpenedSmall result }
+    ensures stores_stay { StoresStay memory.old memory.new }
+    ensures stays_lent { StaysLent memory.old memory.new }
 {
-    let fine = screen::screen(bytes);
-    match fine {
-        Screened::Passed => start(bytes, state, pivots, rows, values),
-        Screened::Stopped(why) => Opened::Stopped(why),
-    }
+    screen::screen(bytes)?;
+    start(bytes, memory)
 }
 
 // One packet, of T + 4 bytes: whether it is of the block. One of another block is passed over.
-pub fn hear(
-    bytes: &[u8],
-    state: &mut [u32],
-    pivots: &mut [u16],
-    rows: &mut [u8],
-    values: &mut [u8],
-) -> bool
+pub fn hear(bytes: &[u8], memory: &mut Memory<'_>) -> bool
     requires { 4 ≤ length bytes.now }
     ensures value { result ≡ is_own bytes.now }
-    ensures hears_more { HearsMore bytes.now state.old pivots.old rows.old values.old
-        state.new pivots.new rows.new values.new }
+    ensures hears_more { HearsMore bytes.now memory.old memory.new }
+    ensures stays_lent { StaysLent memory.old memory.new }
 {
     let id = front::get(bytes);
     if id.source_block_number != 0 {
         return false;
     }
-    packet(
+    // A packet that cannot be taken changes nothing: so it is for whoever holds nothing, of whom nothing is said.
+    let _ = packet(
         id.encoding_symbol_id,
         &bytes[4..],
-        state,
-        pivots,
-        rows,
-        values,
+        memory.state,
+        memory.pivots,
+        memory.rows,
+        memory.values,
     );
     true
 }
 
 // All whole packets of a delivery that was opened.
-fn hear_all(
-    bytes: &[u8],
-    t: usize,
-    state: &mut [u32],
-    pivots: &mut [u16],
-    rows: &mut [u8],
-    values: &mut [u8],
-) -> Passed
+fn hear_all(bytes: &[u8], t: usize, memory: &mut Memory<'_>) -> Passed
     requires in_bounds { (4128 ≤ length bytes.now) × (t ≡ t_of bytes.now) × (t < 65536) }
-    requires holding { Holding (stretch_at bytes.now 0) state.old pivots.old rows.old values.old }
+    requires opened { Held (stretch_at bytes.now 0) memory.old }
     ensures value { result ≡ passed_of bytes.now }
-    ensures holding_2 { Holding (stretch_of bytes.now) state.new pivots.new rows.new values.new }
+    ensures heard { Held (stretch_of bytes.now) memory.new }
+    ensures stays_lent { StaysLent memory.old memory.new }
 {
     let n = packets::count(bytes.len(), t);
     let size = t + 4;
     let cut = (bytes.len() - 4128) % size != 0;
     let mut others: u64 = 0;
-    let mut i = 0;
-    while i < n {
+    for i in 0..n {
         let at = 4128 + i * size;
-        let own = hear(&bytes[at..at + size], state, pivots, rows, values);
+        let own = hear(&bytes[at..at + size], memory);
         others = packets::tally(others, own);
-        i += 1;
     }
     Passed { others, cut }
 }
@@ -133,8 +127,7 @@ fn leave(v: Verdict, r: Row, tables: &[u32], k: u32, t: u16, intermediates: &[u8
 {
     match v {
         Verdict::Solved => block::rebuild(r, tables, k, t, intermediates, out),
-        Verdict::Contradiction => {}
-        Verdict::Open(_) => {}
+        Verdict::Contradiction | Verdict::Open(_) => {}
     }
 }
 
@@ -147,7 +140,7 @@ fn restore(v: Verdict, state: &[u32], set: &[u8], out: &mut [u8])
     let r = words::row_in(state);
     let k = state[9];
     let t = state[10] as u16;
-    let l = r.l as usize * t as usize;
+    let l = r.l as usize * usize::from(t);
     leave(v, r, &state[13..1037], k, t, &set[..l], out);
 }
 
@@ -155,54 +148,42 @@ fn restore(v: Verdict, state: &[u32], set: &[u8], out: &mut [u8])
 pub fn conclude(
     f: usize,
     passed: Passed,
-    state: &mut [u32],
-    pivots: &mut [u16],
-    rows: &mut [u8],
-    values: &mut [u8],
+    memory: &mut Memory<'_>,
     set: &mut [u8],
     out: &mut [u8],
-) -> Received
-    requires { (length values.old ≤ length set.old) × (length set.old ≤ length out.old) × (f ≤ length out.old) }
-    ensures concludes_held { ConcludesHeld state.old pivots.old rows.old values.old f passed
-        out.old out.new result }
+) -> Result<Concluded, Stop>
+    requires { (length memory.old.values.now ≤ length set.old) × (length set.old ≤ length out.old) × (f ≤ length out.old) }
+    ensures concludes_held { ConcludesHeld memory.old f passed out.old out.new result }
     ensures in_room { InRoom (length out.new) result }
+    ensures stays_lent { StaysLent memory.old memory.new }
 {
-    let answer = question(state, pivots, rows, values, set);
-    match answer {
-        Solution::Given(v) => {
-            restore(v, state, set, out);
-            Received::Taken(v, f, passed)
-        }
-        Solution::Refused(why) => Received::Stopped(Stop::Refused(why)),
-    }
+    let verdict = question(memory.state, memory.pivots, memory.rows, memory.values, set)?;
+    restore(verdict, memory.state, set, out);
+    Ok(Concluded {
+        verdict,
+        size: f,
+        passed,
+    })
 }
 
 fn attempt(
     bytes: &[u8],
-    state: &mut [u32],
-    pivots: &mut [u16],
-    rows: &mut [u8],
-    values: &mut [u8],
+    memory: &mut Memory<'_>,
     set: &mut [u8],
     out: &mut [u8],
-) -> Received
-    requires roomy { Roomy (length state.old) (length pivots.old) (length rows.old) (length values.old) }
-    requires values_in_bounds { (length values.old ≤ length set.old) × (length set.old ≤ length out.old) }
+) -> Result<Concluded, Stop>
+    requires roomy { Roomy memory.old }
+    requires values_in_bounds { (length memory.old.values.now ≤ length set.old) × (length set.old ≤ length out.old) }
     ensures comes { Comes bytes.now out.old out.new result }
     ensures in_room { InRoom (length out.new) result }
 {
-    let opened = open(bytes, state, pivots, rows, values);
-    match opened {
-        Opened::Ready(t, f) => {
-            let passed = hear_all(bytes, t, state, pivots, rows, values);
-            conclude(f, passed, state, pivots, rows, values, set, out)
-        }
-        Opened::Stopped(why) => Received::Stopped(why),
-    }
+    let ready = open(bytes, memory)?;
+    let passed = hear_all(bytes, ready.symbol_size, memory);
+    conclude(ready.object_size, passed, memory, set, out)
 }
 
 // A delivery that is in memory as a whole.
-pub fn receive(bytes: &[u8], out: &mut [u8]) -> Received
+pub fn receive(bytes: &[u8], out: &mut [u8]) -> Result<Concluded, Stop>
     requires { 307200 ≤ length out.old }
     ensures comes { Comes bytes.now out.old out.new result }
     ensures in_room { InRoom (length out.new) result }
@@ -212,13 +193,11 @@ pub fn receive(bytes: &[u8], out: &mut [u8]) -> Received
     let mut rows = [0u8; 90000];
     let mut values = [0u8; 307200];
     let mut set = [0u8; 307200];
-    attempt(
-        bytes,
-        &mut state,
-        &mut pivots,
-        &mut rows,
-        &mut values,
-        &mut set,
-        out,
-    )
+    let mut memory = Memory {
+        state: &mut state,
+        pivots: &mut pivots,
+        rows: &mut rows,
+        values: &mut values,
+    };
+    attempt(bytes, &mut memory, &mut set, out)
 }

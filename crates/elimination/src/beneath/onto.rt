@@ -12,11 +12,7 @@ fn begin(l: usize, c: usize) -> usize
     requires { c < l }
     ensures { result ≤ c }
 {
-    let back = (32 - (l - c) % 32) % 32;
-    if c < back {
-        return 0;
-    }
-    c - back
+    c.saturating_sub((32 - (l - c) % 32) % 32)
 }
 
 // f times row k of the store, from column s on, goes onto dst, straight from the store.
@@ -33,7 +29,7 @@ fn add_row(dst: &mut [u8], store: &[u8], l: usize, k: usize, s: usize, f: u8)
 pub fn take_off(rows: &[u8], l: usize, k: usize, c: usize, row: &mut [u8]) -> u8
     requires { (length row.old ≡ l) × (k * l + l ≤ length rows.now) × (c < l) }
     ensures value { result ≡ get_or row.old c 0 }
-    ensures by_index { (s : ℕ) × (s ≤ c) × OntoFrom l k s result rows.now row.old row.new }
+    ensures row_added { (s : ℕ) × (s ≤ c) × OntoFrom l k s result rows.now row.old row.new }
 {
     let f = row[c];
     add_row(row, rows, l, k, begin(l, c), f);
@@ -58,17 +54,14 @@ pub fn add_symbol(dst: &mut [u8], store: &[u8], t: usize, k: usize, f: u8, asked
 fn inverse(x: u8) -> u8
     ensures { result ≡ octets.inverse x }
 {
-    match octet::div(1, x) {
-        octet::Answer::Octet(y) => y,
-        octet::Answer::Refused(_) => 0,
-    }
+    octet::div(1, x).unwrap_or(0)
 }
 
 // The equation is multiplied by the inverse of what it has in column c.
 pub fn make_one(row: &mut [u8], symbol: &mut [u8], c: usize)
     requires { c < length row.old }
-    ensures times { Times (octets.inverse (get_or row.old c 0)) row.old row.new }
-    ensures times_2 { Times (octets.inverse (get_or row.old c 0)) symbol.old symbol.new }
+    ensures row_times { Times (octets.inverse (get_or row.old c 0)) row.old row.new }
+    ensures symbol_times { Times (octets.inverse (get_or row.old c 0)) symbol.old symbol.new }
 {
     let f = row[c];
     if f == 1 {

@@ -30,10 +30,8 @@ fn clear_column(rows: &mut [u8], values: &mut [u8], l: usize, t: usize, q: usize
     requires { StoresRoom (q + 1) l t rows.old values.old × (c < l) }
     ensures { ColumnCleared l t q q c rows.old values.old rows.new values.new }
 {
-    let mut j = 0;
-    while j < q {
+    for j in 0..q {
         clear_entry(rows, values, l, t, q, c, j);
-        j += 1;
     }
 }
 
@@ -43,9 +41,7 @@ pub fn reduce(rows: &mut [u8], values: &mut [u8], pivots: &[u16], l: usize, t: u
     requires { Lent l t l pivots.now rows.old values.old }
     ensures { Reduces l t pivots.now rows.old values.old rows.new values.new }
 {
-    let mut q = l;
-    while 0 < q {
-        q -= 1;
-        clear_column(rows, values, l, t, q, pivots[q] as usize);
+    for q in (0..l).rev() {
+        clear_column(rows, values, l, t, q, usize::from(pivots[q]));
     }
 }

@@ -11,11 +11,7 @@ pub fn copy_row(source: &[u8], store: &mut [u8], w: usize, i: usize, k: usize)
 {
     let to = i * w;
     let from = k * w;
-    let mut c = 0;
-    while c < w {
-        store[to + c] = source[from + c];
-        c += 1;
-    }
+    store[to..to + w].copy_from_slice(&source[from..from + w]);
 }
 
 // Symbol k of a store goes into a buffer of t octets; the answer is whether it is all 0.
@@ -26,12 +22,10 @@ pub fn lay_symbol(source: &[u8], symbol: &mut [u8], t: usize, k: usize) -> bool
 {
     let from = k * t;
     let mut seen = 0u8;
-    let mut c = 0;
-    while c < t {
+    for c in 0..t {
         let x = source[from + c];
         symbol[c] = x;
-        seen = seen | x;
-        c += 1;
+        seen |= x;
     }
     seen == 0
 }
@@ -41,13 +35,10 @@ pub fn next_pivot(row: &[u8], pivots: &[u16], k: usize, r: usize) -> usize
     requires { (k ≤ r) × (r ≤ length pivots.now) × ((j : ℕ) → j < r → column pivots.now j < length row.now) }
     ensures { Passed row.now pivots.now k r result }
 {
-    let mut x = k;
-    while x < r {
-        let c = pivots[x] as usize;
-        if row[c] != 0 {
+    for x in k..r {
+        if row[usize::from(pivots[x])] != 0 {
             return x;
         }
-        x += 1;
     }
-    x
+    r
 }

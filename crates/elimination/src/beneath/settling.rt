@@ -41,9 +41,7 @@ pub fn settle(
     if r < l {
         return;
     }
-    let mut q = r;
-    while 0 < q {
-        q -= 1;
-        bring(rows, values, l, t, q, pivots[q] as usize, out);
+    for q in (0..r).rev() {
+        bring(rows, values, l, t, q, usize::from(pivots[q]), out);
     }
 }

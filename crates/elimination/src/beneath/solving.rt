@@ -14,12 +14,8 @@ use crate::beneath::{rows, settling, taking};
 use crate::verdict::Verdict;
 use field::beneath::runs;
 
-// How many equations are held so far, or that one of them cannot be met.
-#[derive(Clone, Copy)]
-pub enum Progress {
-    Held(usize),
-    Clash,
-}
+// How many equations are held so far; None: one of them cannot be met.
+pub type Progress = Option<usize>;
 
 // How many are held, with r before.
 pub fn held_now(r: usize, x: Taken) -> Progress
@@ -27,9 +23,9 @@ pub fn held_now(r: usize, x: Taken) -> Progress
     ensures { result ≡ progressed r x }
 {
     match x {
-        Taken::Held => Progress::Held(r + 1),
-        Taken::Dependent => Progress::Held(r),
-        Taken::Clash => Progress::Clash,
+        Taken::Held => Some(r + 1),
+        Taken::Dependent => Some(r),
+        Taken::Clash => None,
     }
 }
 
@@ -48,7 +44,7 @@ fn advance(
     requires stores_room { StoresRoom (i + 1) l t rows.old values.old × Pivots l pivots.old × Wide l t row.old symbol.old × (r ≤ i) }
     requires stepped { Stepped l r (column pivots.old) rows.old values.old }
     ensures only_below { OnlyBelow ((i + 1) * l) rows.old rows.new × OnlyBelow ((i + 1) * t) values.old values.new }
-    ensures by_index { (a₀ d₀ : List ℕ) → Under l t i r pivots.old a₀ d₀ rows.old values.old
+    ensures one_more { (a₀ d₀ : List ℕ) → Under l t i r pivots.old a₀ d₀ rows.old values.old
         → Gone l t (i + 1) pivots.new a₀ d₀ rows.new values.new result }
 {
     rows::copy_row(rows, row, l, 0, i);
@@ -75,16 +71,10 @@ fn forward(
     ensures gone { Gone l t m pivots.new rows.old values.old rows.new values.new result }
 {
     let mut r = 0;
-    let mut i = 0;
-    while i < m {
-        let p = advance(rows, values, pivots, l, t, i, r, row, symbol);
-        let Progress::Held(next) = p else {
-            return p;
-        };
-        r = next;
-        i += 1;
+    for i in 0..m {
+        r = advance(rows, values, pivots, l, t, i, r, row, symbol)?;
     }
-    Progress::Held(r)
+    Some(r)
 }
 
 // The same in buffers that may be longer than a row and a symbol.
@@ -129,8 +119,8 @@ pub fn counted(l: usize, r: usize) -> Verdict
 // The used parts of both stores are made 0, and the verdict is handed on.
 fn emptied(rows: &mut [u8], values: &mut [u8], m: usize, l: usize, t: usize, v: Verdict) -> Verdict
     requires { StoresRoom m l t rows.old values.old }
-    ensures written { Written (λ _. 0) rows.old rows.new 0 (m * l) }
-    ensures written_2 { Written (λ _. 0) values.old values.new 0 (m * t) }
+    ensures rows_cleared { Written (λ _. 0) rows.old rows.new 0 (m * l) }
+    ensures values_cleared { Written (λ _. 0) values.old values.new 0 (m * t) }
     ensures value { result ≡ v }
 {
     runs::clear(rows, 0, m * l);
@@ -138,8 +128,8 @@ fn emptied(rows: &mut [u8], values: &mut [u8], m: usize, l: usize, t: usize, v: 
     v
 }
 
-// The frame of a small block: it takes 8 KiB.
-fn small(
+// All of it, in a frame for at most N symbols of at most N octets: a pivot for each, a row and a symbol.
+fn framed<const N: usize>(
     rows: &mut [u8],
     values: &mut [u8],
     out: &mut [u8],
@@ -147,38 +137,14 @@ fn small(
     l: usize,
     t: usize,
 ) -> Verdict
-    requires { StoresRoom m l t rows.old values.old × (l * t ≤ length out.old) × (0 < t) × (l ≤ 2048) × (t ≤ 2048) }
+    requires room { StoresRoom m l t rows.old values.old × (l * t ≤ length out.old) }
+    requires frame { (0 < t) × (l ≤ N) × (t ≤ N) × (N ≤ 65535) }
     ensures { Answered m l t rows.old values.old out.old rows.new values.new out.new result }
 {
-    let mut pivots = [0u16; 2048];
-    let mut row = [0u8; 2048];
-    let mut symbol = [0u8; 2048];
-    let p = forward_in(rows, values, &mut pivots, m, l, t, &mut row, &mut symbol);
-    let Progress::Held(r) = p else {
-        return emptied(rows, values, m, l, t, Verdict::Contradiction);
-    };
-    settling::settle(rows, values, &pivots, l, t, r, out);
-    emptied(rows, values, m, l, t, counted(l, r))
-}
-
-// The frame of any other: 256 KiB. It is called at two places and does the work itself, since what is called once, or is short, becomes a part of its
-// caller, and its frame with it.
-fn large(
-    rows: &mut [u8],
-    values: &mut [u8],
-    out: &mut [u8],
-    m: usize,
-    l: usize,
-    t: usize,
-) -> Verdict
-    requires { StoresRoom m l t rows.old values.old × (l * t ≤ length out.old) × (0 < t) × (l ≤ 65535) × (t ≤ 65535) }
-    ensures { Answered m l t rows.old values.old out.old rows.new values.new out.new result }
-{
-    let mut pivots = [0u16; 65535];
-    let mut row = [0u8; 65535];
-    let mut symbol = [0u8; 65535];
-    let p = forward_in(rows, values, &mut pivots, m, l, t, &mut row, &mut symbol);
-    let Progress::Held(r) = p else {
+    let mut pivots = [0u16; N];
+    let mut row = [0u8; N];
+    let mut symbol = [0u8; N];
+    let Some(r) = forward_in(rows, values, &mut pivots, m, l, t, &mut row, &mut symbol) else {
         return emptied(rows, values, m, l, t, Verdict::Contradiction);
     };
     settling::settle(rows, values, &pivots, l, t, r, out);
@@ -197,11 +163,13 @@ pub fn solve_stored(
     requires { StoresRoom m l t rows.old values.old × (l * t ≤ length out.old) × (0 < t) × (l ≤ 65535) × (t ≤ 65535) }
     ensures { Answered m l t rows.old values.old out.old rows.new values.new out.new result }
 {
+    // The large frame, of 256 KiB, is called at two places: what is called once becomes a part of its caller, and its frame with it, and then a small
+    // block would take as much.
     if l > 2048 {
-        return large(rows, values, out, m, l, t);
+        return framed::<65535>(rows, values, out, m, l, t);
     }
     if t > 2048 {
-        return large(rows, values, out, m, l, t);
+        return framed::<65535>(rows, values, out, m, l, t);
     }
-    small(rows, values, out, m, l, t)
+    framed::<2048>(rows, values, out, m, l, t)
 }

@@ -9,7 +9,7 @@ use crate::beneath::{onto, rows};
 use field::beneath::runs;
 
 // What became of the equation.
-#[derive(Clone, Copy)]
+#[derive(Clone, Copy, Debug, PartialEq, Eq)]
 pub enum Taken {
     Held,
     Dependent,
@@ -39,7 +39,7 @@ fn sift(
     let mut zero = laid;
     let mut k = rows::next_pivot(row, pivots, 0, r);
     while k < r {
-        let f = onto::take_off(rows, l, k, pivots[k] as usize, row);
+        let f = onto::take_off(rows, l, k, usize::from(pivots[k]), row);
         let next = rows::next_pivot(row, pivots, k + 1, r);
         zero = onto::add_symbol(symbol, values, t, k, f, next >= r);
         k = next;
@@ -95,7 +95,7 @@ pub fn take(
     laid: bool,
 ) -> Taken
     requires lent { Lent l t r pivots.old rows.old values.old × Wide l t row.old symbol.old × (laid ≡ zero_from symbol.old 0 t) }
-    requires r_le_l { (r ≤ l) × (l ≤ 65535) × (r < l → RoomForOne l t r pivots.old rows.old values.old) }
+    requires room { (r ≤ l) × (l ≤ 65535) × (r < l → RoomForOne l t r pivots.old rows.old values.old) }
     ensures { Became l t r pivots.old rows.old values.old row.old symbol.old
         pivots.new rows.new values.new result }
 {

@@ -10,10 +10,8 @@ fn sum(store: &mut [u8], w: usize, to: usize, from: usize)
     requires { Apart (length store.old) w to from }
     ensures { Written (λ c. plus (get_or store.old (to + c) 0) (get_or store.old (from + c) 0)) store.old store.new to w }
 {
-    let mut c = 0;
-    while c < w {
-        store[to + c] = store[to + c] ^ store[from + c];
-        c += 1;
+    for c in 0..w {
+        store[to + c] ^= store[from + c];
     }
 }
 
@@ -21,10 +19,8 @@ fn fuse(store: &mut [u8], w: usize, to: usize, from: usize, f: u8)
     requires { Apart (length store.old) w to from }
     ensures { Written (λ c. plus (get_or store.old (to + c) 0) (times f (get_or store.old (from + c) 0))) store.old store.new to w }
 {
-    let mut c = 0;
-    while c < w {
-        store[to + c] = store[to + c] ^ doubling::mul(store[from + c], f);
-        c += 1;
+    for c in 0..w {
+        store[to + c] ^= doubling::mul(store[from + c], f);
     }
 }
 

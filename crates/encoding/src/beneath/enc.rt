@@ -24,10 +24,8 @@ fn add_symbols(out: &mut [u8], t: usize, intermediates: &[u8], list: &[u32], n: 
     requires { Addable t out.old intermediates.now list.now n }
     ensures { Written (symbols_added t out.old intermediates.now list.now n) out.old out.new 0 t }
 {
-    let mut i = 0;
-    while i < n {
-        add_symbol(out, t, intermediates, list[i] as usize);
-        i += 1;
+    for &p in &list[..n] {
+        add_symbol(out, t, intermediates, p as usize);
     }
 }
 

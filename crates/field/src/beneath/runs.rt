@@ -13,11 +13,7 @@ pub fn clear(dst: &mut [u8], at: usize, n: usize)
     requires { at + n ≤ length dst.old }
     ensures { Written (λ k. 0) dst.old dst.new at n }
 {
-    let mut i = 0;
-    while i < n {
-        dst[at + i] = 0;
-        i += 1;
-    }
+    dst[at..at + n].fill(0);
 }
 
 // dst + src, from place `at` of dst on
@@ -27,12 +23,10 @@ pub fn add(dst: &mut [u8], at: usize, src: &[u8]) -> bool
     ensures value { result ≡ zero_from dst.new at (length src.now) }
 {
     let mut seen = 0u8;
-    let mut i = 0;
-    while i < src.len() {
+    for i in 0..src.len() {
         let x = dst[at + i] ^ src[i];
         dst[at + i] = x;
-        seen = seen | x;
-        i += 1;
+        seen |= x;
     }
     seen == 0
 }
@@ -43,12 +37,9 @@ pub fn scale(dst: &mut [u8], c: u8) -> bool
     ensures value { result ≡ zero_from dst.new 0 (length dst.old) }
 {
     let mut seen = 0u8;
-    let mut i = 0;
-    while i < dst.len() {
-        let x = doubling::mul(dst[i], c);
-        dst[i] = x;
-        seen = seen | x;
-        i += 1;
+    for x in dst.iter_mut() {
+        *x = doubling::mul(*x, c);
+        seen |= *x;
     }
     seen == 0
 }
@@ -60,36 +51,23 @@ pub fn fma(dst: &mut [u8], at: usize, src: &[u8], c: u8) -> bool
     ensures value { result ≡ zero_from dst.new at (length src.now) }
 {
     let mut seen = 0u8;
-    let mut i = 0;
-    while i < src.len() {
+    for i in 0..src.len() {
         let x = dst[at + i] ^ doubling::mul(src[i], c);
         dst[at + i] = x;
-        seen = seen | x;
-        i += 1;
+        seen |= x;
     }
     seen == 0
-}
-
-fn larger(x: u8, y: u8) -> u8
-    ensures { (x ≤ result) × (y ≤ result) }
-{
-    if x < y {
-        return y;
-    }
-    x
 }
 
 // No octet of src is larger than the answer.
 fn most(src: &[u8]) -> u8
     ensures { AtMost result src.now }
 {
-    let mut x = 0u8;
-    let mut i = 0;
-    while i < src.len() {
-        x = larger(x, src[i]);
-        i += 1;
+    let mut largest = 0u8;
+    for x in src {
+        largest = largest.max(*x);
     }
-    x
+    largest
 }
 
 // A place from `from` on, at most `to`, before which all is 0: blocks are looked at whole, which is faster than octet by octet.
@@ -113,14 +91,9 @@ pub fn first_other(src: &[u8], from: usize, to: usize) -> usize
     requires { (from ≤ to) × (to ≤ length src.now) }
     ensures { FirstOther src.now from to result }
 {
-    let mut x = blank(src, from, to);
-    while x < to {
-        if src[x] != 0 {
-            return x;
-        }
-        x += 1;
-    }
-    x
+    (blank(src, from, to)..to)
+        .find(|i| src[*i] != 0)
+        .unwrap_or(to)
 }
 
 // c times 0 or 1
@@ -128,10 +101,7 @@ fn multiple(x: u8, c: u8) -> u8
     requires { x < 2 }
     ensures { result ≡ times c x }
 {
-    if x == 0 {
-        return 0;
-    }
-    c
+    if x == 0 { 0 } else { c }
 }
 
 // dst + c · src, from place `at` of dst on, where src is of 0 and 1
@@ -139,10 +109,8 @@ fn fma_bits(dst: &mut [u8], at: usize, src: &[u8], c: u8)
     requires { (at + length src.now ≤ length dst.old) × AtMost 1 src.now }
     ensures { Written (fused dst.old at c src.now) dst.old dst.new at (length src.now) }
 {
-    let mut i = 0;
-    while i < src.len() {
-        dst[at + i] = dst[at + i] ^ multiple(src[i], c);
-        i += 1;
+    for i in 0..src.len() {
+        dst[at + i] ^= multiple(src[i], c);
     }
 }
 
@@ -167,10 +135,8 @@ pub fn fuse(dst: &mut [u8], at: usize, src: &[u8], c: u8)
         add(dst, at, src);
         return;
     }
-    let mut i = 0;
-    while i < src.len() {
-        dst[at + i] = dst[at + i] ^ doubling::mul(src[i], c);
-        i += 1;
+    for i in 0..src.len() {
+        dst[at + i] ^= doubling::mul(src[i], c);
     }
 }
 

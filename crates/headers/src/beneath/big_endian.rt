@@ -2,24 +2,14 @@
 ghost use Rattle.std.specs.Prelude.{◌≡◌, ◌+◌, ◌*◌, ◌^◌, ◌<◌, ◌≤◌, length};
 ghost use Rattle.headers.specs.Bytes.{Laid, in_bytes, number};
 
-fn wide(x: u8) -> u64
-    ensures { (result ≡ x) × (result < 256) }
-{
-    x as u64
-}
-
 // the number that the n bytes from `at` on make
 pub fn get(bytes: &[u8], at: usize, n: usize) -> u64
     requires { (at + n ≤ length bytes.now) × (n ≤ 8) }
     ensures { (result ≡ number bytes.now at n) × (result < 2 ^ (8 * n)) }
 {
-    let mut x: u64 = 0;
-    let mut i = 0;
-    while i < n {
-        x = x * 256 + wide(bytes[at + i]);
-        i += 1;
-    }
-    x
+    let mut word = [0u8; 8];
+    copy(&mut word, 8 - n, &bytes[at..at + n]);
+    u64::from_be_bytes(word)
 }
 
 // the n low bytes of x, from `at` on
@@ -27,20 +17,13 @@ pub fn put(store: &mut [u8], at: usize, n: usize, x: u64)
     requires { (at + n ≤ length store.old) × (n ≤ 8) }
     ensures { Laid (in_bytes n x) store.old store.new at }
 {
-    let mut i = 0;
-    while i < n {
-        store[at + i] = ((x >> (8 * (n - 1 - i))) % 256) as u8;
-        i += 1;
-    }
+    let word = x.to_be_bytes();
+    copy(store, at, &word[8 - n..]);
 }
 
 pub fn copy(store: &mut [u8], at: usize, bytes: &[u8])
     requires { at + length bytes.now ≤ length store.old }
     ensures { Laid bytes.now store.old store.new at }
 {
-    let mut i = 0;
-    while i < bytes.len() {
-        store[at + i] = bytes[i];
-        i += 1;
-    }
+    store[at..at + bytes.len()].copy_from_slice(bytes);
 }

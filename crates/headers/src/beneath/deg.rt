@@ -13,10 +13,6 @@ pub fn deg(v: u32, w: u32) -> u32
     requires { (v < 1048576) × (2 ≤ w) }
     ensures { result ≡ degree v w }
 {
-    let mut d: usize = 1;
-    while F[d] <= v {
-        d += 1;
-    }
-    let n = d as u32;
-    if n < w - 2 { n } else { w - 2 }
+    let d = F.partition_point(|f| *f <= v) as u32;
+    d.min(w - 2)
 }

@@ -23,6 +23,6 @@ pub fn put(store: &mut [u8], id: PayloadId)
     requires { 4 ≤ length store.old }
     ensures { Laid (id_bytes id) store.old store.new 0 }
 {
-    big_endian::put(store, 0, 1, id.source_block_number as u64);
-    big_endian::put(store, 1, 3, id.encoding_symbol_id as u64);
+    big_endian::put(store, 0, 1, u64::from(id.source_block_number));
+    big_endian::put(store, 1, 3, u64::from(id.encoding_symbol_id));
 }

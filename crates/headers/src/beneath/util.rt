@@ -7,6 +7,5 @@ pub fn int_div_ceil(num: u64, denom: u64) -> u64
     requires { 0 < denom }
     ensures { result ≡ ceil num denom }
 {
-    let whole = num / denom;
-    if num % denom == 0 { whole } else { whole + 1 }
+    num.div_ceil(denom)
 }

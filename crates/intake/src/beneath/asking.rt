@@ -5,8 +5,7 @@ ghost use Rattle.elimination.specs.Steps.{StoresRoom};
 ghost use Rattle.intake.specs.Night.{AnswersHeld, Within};
 ghost use Rattle.intake.specs.State.{Begun, l_in, t_in};
 
-use crate::beneath::fixing;
-use elimination::beneath::solving::Progress;
+use crate::beneath::{fixing, words};
 use elimination::beneath::{settling, solving};
 use elimination::verdict::Verdict;
 
@@ -26,9 +25,9 @@ pub fn answer(
     ensures answers_held { AnswersHeld state.old pivots.old rows.old values.old out.old
         state.new pivots.new rows.new values.new out.new result }
 {
-    let l = state[5] as usize;
-    let t = state[10] as usize;
-    let Progress::Held(r) = fixing::complete(state, pivots, rows, values) else {
+    let l = words::l_in(state);
+    let t = words::t_in(state);
+    let Some(r) = fixing::complete(state, pivots, rows, values) else {
         return Verdict::Contradiction;
     };
     settling::settle(rows, values, pivots, l, t, r, out);

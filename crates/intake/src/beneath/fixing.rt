@@ -35,7 +35,7 @@ fn in_turn(r: Row, k: u32, i: usize) -> usize
 fn lay_row(tables: &[u32], r: Row, k: u32, j: usize, row: &mut [u8])
     requires { Fixing r tables.now k × (j < fixed r k) × (length row.old ≡ l_of r) }
     ensures row_len_unchanged { length row.new ≡ length row.old }
-    ensures by_index { (c : ℕ) → c < l_of r → get_or row.new c 0 ≡ fixed_row tables.now r k j c }
+    ensures row_laid { (c : ℕ) → c < l_of r → get_or row.new c 0 ≡ fixed_row tables.now r k j c }
 {
     let s = r.s as usize;
     let h = r.h as usize;
@@ -97,11 +97,9 @@ fn take_fixed(
 {
     let n = sizes::fixed(r, k);
     let mut p = from;
-    let mut i = 0;
-    while i < n {
+    for i in 0..n {
         let j = in_turn(r, k, i);
         p = take_row(rows, values, pivots, tables, r, k, t, j, p, row, symbol);
-        i += 1;
     }
     p
 }
@@ -136,11 +134,11 @@ fn fix(state: &mut [u32], pivots: &mut [u16], rows: &mut [u8], values: &mut [u8]
         state.new pivots.new rows.new values.new result }
 {
     let r = words::row_in(state);
-    let k = state[9];
-    let t = state[10] as usize;
+    let k = words::k_in(state);
+    let t = words::t_in(state);
     let p = words::progress_in(state);
-    let q = take_framed(rows, values, pivots, &state[13..1037], r, k, t, p);
-    words::note(state, q, 2);
+    let q = take_framed(rows, values, pivots, words::tables_in(state), r, k, t, p);
+    words::note(state, q, words::FIXED);
     q
 }
 
@@ -155,7 +153,8 @@ pub fn complete(
     ensures { Completes state.old pivots.old rows.old values.old
         state.new pivots.new rows.new values.new result }
 {
-    if state[12] != 1 {
+    let whole = words::mark_in(state) != words::BEGUN;
+    if whole {
         return words::progress_in(state);
     }
     fix(state, pivots, rows, values)

@@ -29,9 +29,9 @@ fn lay_packet(
     requires { Obeys r × (length tables.now ≡ 1024) × (1 ≤ k) × (k ≤ r.kp) × (esi < 16777216)
         × Wide (l_of r) (length symbol.now) row.old buffer.old }
     ensures wide { Wide (l_of r) (length symbol.now) row.new buffer.new }
-    ensures by_index { (c : ℕ) → c < l_of r → get_or row.new c 0 ≡ sent_row tables.now r k esi c }
-    ensures by_index_2 { ((b : ℕ) → b < length symbol.now → get_or buffer.new b 0 ≡ get_or symbol.now b 0)
-        × (result ≡ zero_from buffer.new 0 (length symbol.now)) }
+    ensures row_laid { (c : ℕ) → c < l_of r → get_or row.new c 0 ≡ sent_row tables.now r k esi c }
+    ensures symbol_laid { (b : ℕ) → b < length symbol.now → get_or buffer.new b 0 ≡ get_or symbol.now b 0 }
+    ensures value { result ≡ zero_from buffer.new 0 (length symbol.now) }
 {
     let x = tuple::intermediate_tuple(
         tables,
@@ -44,136 +44,43 @@ fn lay_packet(
     rows::lay_symbol(symbol, buffer, symbol.len(), 0)
 }
 
-fn receive(
+// It is taken in, in a frame for at most N columns and symbols of at most N octets. The steps stand here and not in a function of their own: what is short
+// becomes a part of its caller, and its frame with it.
+fn framed<const N: usize>(
     esi: u32,
     symbol: &[u8],
     state: &mut [u32],
     pivots: &mut [u16],
     rows: &mut [u8],
     values: &mut [u8],
-    row: &mut [u8],
-    buffer: &mut [u8],
+    l: usize,
+    t: usize,
 )
-    requires { Packet esi symbol.now state.old pivots.old rows.old values.old × Wide (l_in state.old) (t_in state.old) row.old buffer.old }
+    requires packet { Packet esi symbol.now state.old pivots.old rows.old values.old }
+    requires frame { (l ≡ l_in state.old) × (t ≡ t_in state.old) × (l ≤ N) × (t ≤ N) × (N ≤ 65535) }
     ensures within { Within state.old pivots.old rows.old values.old
         state.new pivots.new rows.new values.new }
     ensures holds_more { HoldsMore esi symbol.now state.old pivots.old rows.old values.old
         state.new pivots.new rows.new values.new }
 {
+    let mut row = [0u8; N];
+    let mut buffer = [0u8; N];
+    let row = &mut row[..l];
+    let buffer = &mut buffer[..t];
     let r = words::row_in(state);
-    let k = state[9];
-    let mark = state[12];
-    let laid = lay_packet(&state[13..1037], r, k, esi, symbol, row, buffer);
-    let p = words::progress_in(state);
-    let q = stepping::take_next(
-        rows,
-        values,
-        pivots,
-        r.l as usize,
-        symbol.len(),
-        p,
+    let mark = words::mark_in(state);
+    let laid = lay_packet(
+        words::tables_in(state),
+        r,
+        words::k_in(state),
+        esi,
+        symbol,
         row,
         buffer,
-        laid,
     );
-    words::note(state, q, mark);
-}
-
-// The same in buffers that may be longer than a row and a symbol.
-fn receive_in(
-    esi: u32,
-    symbol: &[u8],
-    state: &mut [u32],
-    pivots: &mut [u16],
-    rows: &mut [u8],
-    values: &mut [u8],
-    row: &mut [u8],
-    buffer: &mut [u8],
-    l: usize,
-    t: usize,
-)
-    requires packet { Packet esi symbol.now state.old pivots.old rows.old values.old × (l ≡ l_in state.old) × (t ≡ t_in state.old) }
-    requires l_in_bounds { (l ≤ length row.old) × (t ≤ length buffer.old) }
-    ensures within { Within state.old pivots.old rows.old values.old
-        state.new pivots.new rows.new values.new }
-    ensures holds_more { HoldsMore esi symbol.now state.old pivots.old rows.old values.old
-        state.new pivots.new rows.new values.new }
-{
-    receive(
-        esi,
-        symbol,
-        state,
-        pivots,
-        rows,
-        values,
-        &mut row[..l],
-        &mut buffer[..t],
-    );
-}
-
-// The frame of a small block: it takes 4 KiB.
-fn small(
-    esi: u32,
-    symbol: &[u8],
-    state: &mut [u32],
-    pivots: &mut [u16],
-    rows: &mut [u8],
-    values: &mut [u8],
-    l: usize,
-    t: usize,
-)
-    requires { Packet esi symbol.now state.old pivots.old rows.old values.old × (l ≡ l_in state.old) × (t ≡ t_in state.old)
-        × (l ≤ 2048) × (t ≤ 2048) }
-    ensures within { Within state.old pivots.old rows.old values.old
-        state.new pivots.new rows.new values.new }
-    ensures holds_more { HoldsMore esi symbol.now state.old pivots.old rows.old values.old
-        state.new pivots.new rows.new values.new }
-{
-    let mut row = [0u8; 2048];
-    let mut buffer = [0u8; 2048];
-    receive_in(
-        esi,
-        symbol,
-        state,
-        pivots,
-        rows,
-        values,
-        &mut row,
-        &mut buffer,
-        l,
-        t,
-    );
-}
-
-// The frame of any other: 128 KiB. It takes the steps itself: what is short becomes a part of its caller, and its frame with it.
-fn large(
-    esi: u32,
-    symbol: &[u8],
-    state: &mut [u32],
-    pivots: &mut [u16],
-    rows: &mut [u8],
-    values: &mut [u8],
-    l: usize,
-    t: usize,
-)
-    requires { Packet esi symbol.now state.old pivots.old rows.old values.old × (l ≡ l_in state.old) × (t ≡ t_in state.old)
-        × (l ≤ 65535) × (t ≤ 65535) }
-    ensures within { Within state.old pivots.old rows.old values.old
-        state.new pivots.new rows.new values.new }
-    ensures holds_more { HoldsMore esi symbol.now state.old pivots.old rows.old values.old
-        state.new pivots.new rows.new values.new }
-{
-    let mut octets = [0u8; 65535];
-    let mut more = [0u8; 65535];
-    let row = &mut octets[..l];
-    let buffer = &mut more[..t];
-    let r = words::row_in(state);
-    let k = state[9];
-    let mark = state[12];
-    let laid = lay_packet(&state[13..1037], r, k, esi, symbol, row, buffer);
     let p = words::progress_in(state);
-    let next = stepping::take_next(rows, values, pivots, l, t, p, row, buffer, laid);
-    words::note(state, next, mark);
+    let q = stepping::take_next(rows, values, pivots, l, t, p, row, buffer, laid);
+    words::note(state, q, mark);
 }
 
 // A packet that nothing refuses.
@@ -191,15 +98,15 @@ pub fn keep(
     ensures holds_more { HoldsMore esi symbol.now state.old pivots.old rows.old values.old
         state.new pivots.new rows.new values.new }
 {
-    let l = state[5] as usize;
-    let t = state[10] as usize;
+    let l = words::l_in(state);
+    let t = words::t_in(state);
+    // The large frame, of 128 KiB, is called at two places: what is called once becomes a part of its caller, and its frame with it, and then a small
+    // packet would take as much.
     if l > 2048 {
-        large(esi, symbol, state, pivots, rows, values, l, t);
-        return;
+        return framed::<65535>(esi, symbol, state, pivots, rows, values, l, t);
     }
     if t > 2048 {
-        large(esi, symbol, state, pivots, rows, values, l, t);
-        return;
+        return framed::<65535>(esi, symbol, state, pivots, rows, values, l, t);
     }
-    small(esi, symbol, state, pivots, rows, values, l, t);
+    framed::<2048>(esi, symbol, state, pivots, rows, values, l, t)
 }

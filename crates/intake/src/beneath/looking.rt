@@ -7,32 +7,13 @@ ghost use Rattle.intake.specs.Taking.{Placed};
 
 use crate::beneath::words;
 use elimination::beneath::solving::Progress;
-use field::refusal::Answer;
 use headers::beneath::row;
 
 // The numbers beside the row.
-fn counts(kp: u32, k: u32, t: u32, mark: u32) -> bool
+fn counts(kp: u32, k: u32, t: usize, mark: u32) -> bool
     ensures { Told result (Counts kp k t mark) }
 {
-    if k < 1 {
-        return false;
-    }
-    if k > kp {
-        return false;
-    }
-    if t < 1 {
-        return false;
-    }
-    if t > 65535 {
-        return false;
-    }
-    if mark < 1 {
-        return false;
-    }
-    if mark > 3 {
-        return false;
-    }
-    true
+    1 <= k && k <= kp && 1 <= t && t <= 65535 && 1 <= mark && mark <= 3
 }
 
 // The r held rows are no more than there are columns, and each has a column for its pivot.
@@ -40,17 +21,7 @@ fn held(pivots: &[u16], l: usize, r: usize) -> bool
     requires { l ≤ length pivots.now }
     ensures { Told result ((r ≤ l) × ((k : ℕ) → k < r → column pivots.now k < l)) }
 {
-    if r > l {
-        return false;
-    }
-    let mut i = 0;
-    while i < r {
-        if pivots[i] as usize >= l {
-            return false;
-        }
-        i += 1;
-    }
-    true
+    r <= l && pivots[..r].iter().all(|&c| usize::from(c) < l)
 }
 
 fn placed(pivots: &[u16], l: usize, p: Progress) -> bool
@@ -58,30 +29,28 @@ fn placed(pivots: &[u16], l: usize, p: Progress) -> bool
     ensures { Told result (Placed l pivots.now p) }
 {
     match p {
-        Progress::Held(r) => held(pivots, l, r),
-        Progress::Clash => true,
+        Some(r) => held(pivots, l, r),
+        None => true,
     }
 }
 
 pub fn begun(state: &[u32], pivots: &[u16]) -> bool
     ensures { Told result (Begun state.now pivots.now) }
 {
-    if state.len() < 1037 {
+    if state.len() < words::SIZE {
         return false;
     }
     let r = words::row_in(state);
-    let Answer::Done = row::verify(r) else {
+    let Ok(()) = row::verify(r) else {
         return false;
     };
     let l = r.l as usize;
-    if pivots.len() < l {
-        return false;
-    }
-    if !counts(r.kp, state[9], state[10], state[12]) {
-        return false;
-    }
-    if !placed(pivots, l, words::progress_in(state)) {
-        return false;
-    }
-    true
+    l <= pivots.len()
+        && counts(
+            r.kp,
+            words::k_in(state),
+            words::t_in(state),
+            words::mark_in(state),
+        )
+        && placed(pivots, l, words::progress_in(state))
 }

@@ -1,8 +1,7 @@
 // One equation more, in stores for L rows and L symbols, whatever number came before it.
-ghost use Rattle.std.specs.Prelude.{◌≡◌, ◌<◌, get_or};
+ghost use Rattle.std.specs.Prelude.{◌≡◌, ◌<◌, Some, get_or};
 ghost use Rattle.field.specs.Runs.{zero_from};
 ghost use Rattle.elimination.specs.Taking.{Wide};
-ghost use Rattle.elimination.specs.declared.beneath.solving.Progress.TheVariants as Progresses;
 ghost use Rattle.intake.specs.Taking.{Adds, Takable, single};
 
 use elimination::beneath::solving::Progress;
@@ -21,22 +20,22 @@ fn take_held(
     symbol: &mut [u8],
     laid: bool,
 ) -> Progress
-    requires takable { Takable l t pivots.old rows.old values.old (Progresses.Held r) }
+    requires takable { Takable l t pivots.old rows.old values.old (Some r) }
     requires wide { Wide l t row.old symbol.old × (laid ≡ zero_from symbol.old 0 t) }
     ensures { Adds l t (single (λ c. get_or row.old c 0) (λ b. get_or symbol.old b 0))
-        pivots.old rows.old values.old pivots.new rows.new values.new (Progresses.Held r) result }
+        pivots.old rows.old values.old pivots.new rows.new values.new (Some r) result }
 {
     let more = r + 1;
     match taking::take(rows, values, pivots, l, t, r, row, symbol, laid) {
         Taken::Held => {
             if more == l {
                 reducing::reduce(rows, values, pivots, l, t);
-                return Progress::Held(l);
+                return Some(l);
             }
-            Progress::Held(more)
+            Some(more)
         }
-        Taken::Dependent => Progress::Held(r),
-        Taken::Clash => Progress::Clash,
+        Taken::Dependent => Some(r),
+        Taken::Clash => None,
     }
 }
 
@@ -58,7 +57,7 @@ pub fn take_next(
         pivots.old rows.old values.old pivots.new rows.new values.new p result }
 {
     match p {
-        Progress::Held(r) => take_held(rows, values, pivots, l, t, r, row, symbol, laid),
-        Progress::Clash => Progress::Clash,
+        Some(r) => take_held(rows, values, pivots, l, t, r, row, symbol, laid),
+        None => None,
     }
 }

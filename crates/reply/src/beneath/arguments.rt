@@ -2,35 +2,32 @@
 ghost use Rattle.std.specs.Prelude.{◌≡◌};
 ghost use Rattle.reply.specs.Targets.{target_of};
 
-#[derive(Clone, Copy)]
+#[derive(Clone, Copy, Debug, PartialEq, Eq)]
 pub enum Misuse {
     Arguments,
     NoName,
     LongName,
 }
 
-#[derive(Clone, Copy)]
+#[derive(Clone, Copy, Debug, PartialEq, Eq)]
 pub enum Target {
     Output,
     File,
-    Misused(Misuse),
 }
 
-// Of `count` arguments, the program's own name among them; `whole`: the first one behind it fits the store for it, and has n bytes.
-pub fn from_arguments(count: usize, whole: bool, n: usize) -> Target
-    ensures { result ≡ target_of count whole n }
+// Of `count` arguments, the program's own name among them. `name`: how many bytes the first one behind it has; None, if they do not fit the store for it.
+pub fn from_arguments(count: usize, name: Option<usize>) -> Result<Target, Misuse>
+    ensures { result ≡ target_of count name }
 {
     if count < 2 {
-        return Target::Output;
+        return Ok(Target::Output);
     }
     if count > 2 {
-        return Target::Misused(Misuse::Arguments);
+        return Err(Misuse::Arguments);
     }
-    if !whole {
-        return Target::Misused(Misuse::LongName);
+    match name {
+        None => Err(Misuse::LongName),
+        Some(0) => Err(Misuse::NoName),
+        Some(_) => Ok(Target::File),
     }
-    if n == 0 {
-        return Target::Misused(Misuse::NoName);
-    }
-    Target::File
 }

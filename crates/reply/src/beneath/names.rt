@@ -9,14 +9,7 @@ use headers::beneath::big_endian;
 pub fn last_part(path: &[u8]) -> usize
     ensures { LastPart path.now result }
 {
-    let mut k = path.len();
-    while k > 0 {
-        if path[k - 1] == b'/' {
-            return k;
-        }
-        k -= 1;
-    }
-    k
+    path.iter().rposition(|&b| b == b'/').map_or(0, |i| i + 1)
 }
 
 // In the same folder: a dot, the last part of the path, '.receive-' and the number i.
@@ -29,5 +22,5 @@ pub fn beside(path: &[u8], i: u32, name: &mut [u8]) -> usize
     big_endian::copy(name, 0, &path[..k]);
     big_endian::copy(name, k, b".");
     big_endian::copy(name, k + 1, &path[k..]);
-    numbered(name, len + 1, b".receive-", i as u64)
+    numbered(name, len + 1, b".receive-", u64::from(i))
 }

@@ -13,7 +13,7 @@ pub fn shortfall(out: &mut [u8], at: usize, x: u32) -> usize
     requires { at + 61 ≤ length out.old }
     ensures { Lined (open_words x) 61 out.old out.new at result }
 {
-    let next = numbered(out, at, b"open, ", x as u64);
+    let next = numbered(out, at, b"open, ", u64::from(x));
     rows::text(out, next, b" more independent packets at least\n")
 }
 

@@ -8,18 +8,19 @@ ghost use Rattle.reply.specs.Words.{Line};
 use crate::beneath::rows::Typed;
 use crate::beneath::{notes, rows, words};
 use delivery::beneath::receiver;
-use delivery::beneath::receiver::Received;
+use delivery::beneath::receiver::Concluded;
+use delivery::beneath::screen::Stop;
 use elimination::verdict::Verdict;
 
 // So many bytes at the front of the store. Object: to standard output, or to the file OUT; Words: to standard error.
-#[derive(Clone, Copy)]
+#[derive(Clone, Copy, Debug, PartialEq, Eq)]
 pub enum Reply {
     Object(usize),
     Words(usize),
 }
 
 // The notes, so many bytes at the front of a store of their own, which come first; and the reply.
-#[derive(Clone, Copy)]
+#[derive(Clone, Copy, Debug, PartialEq, Eq)]
 pub struct Spoken {
     pub notes: usize,
     pub reply: Reply,
@@ -37,24 +38,24 @@ fn say_verdict(out: &mut [u8], v: Verdict, f: usize) -> Reply
 }
 
 // t: the numbers of the row, for what is wrong with it.
-pub fn say(out: &mut [u8], what: Received, t: Typed) -> Reply
+pub fn say(out: &mut [u8], what: Result<Concluded, Stop>, t: Typed) -> Reply
     requires { (200 ≤ length out.old) × InRoom (length out.old) what }
     ensures said { Said t out.old out.new result what }
     ensures in_store { InStore result out.new }
 {
     match what {
-        Received::Taken(v, f, _) => say_verdict(out, v, f),
-        Received::Stopped(why) => Reply::Words(words::stopped(out, why, t)),
+        Ok(c) => say_verdict(out, c.verdict, c.size),
+        Err(why) => Reply::Words(words::stopped(out, why, t)),
     }
 }
 
-fn note(out: &mut [u8], what: Received) -> usize
+fn note(out: &mut [u8], what: Result<Concluded, Stop>) -> usize
     requires { 200 ≤ length out.old }
     ensures { Line (notes_of what) out.old out.new result }
 {
     match what {
-        Received::Taken(_, _, p) => notes::passed(out, p),
-        Received::Stopped(_) => 0,
+        Ok(c) => notes::passed(out, c.passed),
+        Err(_) => 0,
     }
 }
 

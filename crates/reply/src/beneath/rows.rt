@@ -6,13 +6,12 @@ ghost use Rattle.reply.specs.Ascii.{ascii};
 ghost use Rattle.reply.specs.Rows.{b_words, fault_words, l_words, ldpc_words, less_words, p_words, row_words, signed_words, stated, sum_words, typed_in, wide_words};
 ghost use Rattle.reply.specs.Words.{Line};
 
-use field::refusal;
 use field::refusal::Part;
 use header_text::beneath::numbered;
 use headers::beneath::{big_endian, util};
 
 // K', J, S, H and W as they stand in a delivery.
-#[derive(Clone, Copy)]
+#[derive(Clone, Copy, Debug, PartialEq, Eq)]
 pub struct Typed {
     pub kp: u32,
     pub j: u32,
@@ -48,7 +47,7 @@ pub fn broken(out: &mut [u8], part: Part, t: Typed) -> usize
     requires { 200 ≤ length out.old }
     ensures { Line (row_words part t) out.old out.new result }
 {
-    let after_part = numbered(out, 0, b"refused 4, part ", refusal::place(part) as u64);
+    let after_part = numbered(out, 0, b"refused 4, part ", u64::from(part.place()));
     let at = text(out, after_part, b": ");
     let end = fault(out, at, part, t);
     text(out, end, b"\n")
@@ -102,7 +101,7 @@ fn b_fault(out: &mut [u8], at: usize, t: Typed) -> usize
     ensures { Lined (b_words t) 160 out.old out.new at result }
 {
     let terms = difference(out, at, b"B = W - S is ", t);
-    let value = signed(out, terms, t.w as u64, t.s as u64);
+    let value = signed(out, terms, u64::from(t.w), u64::from(t.s));
     text(out, value, b", and must be at least 1")
 }
 
@@ -111,8 +110,8 @@ fn p_fault(out: &mut [u8], at: usize, t: Typed) -> usize
     ensures { Lined (p_words t) 160 out.old out.new at result }
 {
     let terms = sum(out, at, b"P = K' + S + H - W is ", t);
-    let less = numbered(out, terms, b" - ", t.w as u64);
-    let value = signed(out, less, total(t), t.w as u64);
+    let less = numbered(out, terms, b" - ", u64::from(t.w));
+    let value = signed(out, less, total(t), u64::from(t.w));
     text(out, value, b", and must be at least 3")
 }
 
@@ -121,7 +120,7 @@ fn ldpc_fault(out: &mut [u8], at: usize, t: Typed) -> usize
     ensures { Lined (ldpc_words t) 160 out.old out.new at result }
 {
     let terms = difference(out, at, b"ceil(B/S) = ceil((W - S)/S) is ceil((", t);
-    let over = numbered(out, terms, b")/", t.s as u64);
+    let over = numbered(out, terms, b")/", u64::from(t.s));
     let value = numbered(out, over, b") = ", bands(t));
     text(out, value, b", and must be below S")
 }
@@ -140,9 +139,9 @@ fn sum(out: &mut [u8], at: usize, label: &[u8], t: Typed) -> usize
     requires { at + (length label.now + 66) ≤ length out.old }
     ensures { Lined (label.now ++ sum_words t) (length label.now + 66) out.old out.new at result }
 {
-    let kp = numbered(out, at, label, t.kp as u64);
-    let s = numbered(out, kp, b" + ", t.s as u64);
-    numbered(out, s, b" + ", t.h as u64)
+    let kp = numbered(out, at, label, u64::from(t.kp));
+    let s = numbered(out, kp, b" + ", u64::from(t.s));
+    numbered(out, s, b" + ", u64::from(t.h))
 }
 
 // The label, and W - S in numbers.
@@ -150,8 +149,8 @@ fn difference(out: &mut [u8], at: usize, label: &[u8], t: Typed) -> usize
     requires { at + (length label.now + 43) ≤ length out.old }
     ensures { Lined (label.now ++ less_words t) (length label.now + 43) out.old out.new at result }
 {
-    let w = numbered(out, at, label, t.w as u64);
-    numbered(out, w, b" - ", t.s as u64)
+    let w = numbered(out, at, label, u64::from(t.w));
+    numbered(out, w, b" - ", u64::from(t.s))
 }
 
 // What a - b comes to, which may be negative.
@@ -169,7 +168,7 @@ fn signed(out: &mut [u8], at: usize, a: u64, b: u64) -> usize
 fn total(t: Typed) -> u64
     ensures { result ≡ t.kp + t.s + t.h }
 {
-    t.kp as u64 + t.s as u64 + t.h as u64
+    u64::from(t.kp) + u64::from(t.s) + u64::from(t.h)
 }
 
 // ceil((W - S)/S): 0 where W is below S, and where S is 0.
@@ -179,10 +178,7 @@ fn bands(t: Typed) -> u64
     if t.s == 0 {
         return 0;
     }
-    if t.w < t.s {
-        return 0;
-    }
-    util::int_div_ceil((t.w - t.s) as u64, t.s as u64)
+    util::int_div_ceil(u64::from(t.w.saturating_sub(t.s)), u64::from(t.s))
 }
 
 fn too_large(out: &mut [u8], at: usize, label: &[u8], x: u32) -> usize
@@ -197,7 +193,7 @@ fn ruled(out: &mut [u8], at: usize, label: &[u8], x: u32, rule: &[u8]) -> usize
     requires { (at + 60 ≤ length out.old) × (length label.now + length rule.now ≤ 40) }
     ensures { Lined (stated label.now x rule.now) 60 out.old out.new at result }
 {
-    let next = numbered(out, at, label, x as u64);
+    let next = numbered(out, at, label, u64::from(x));
     text(out, next, rule)
 }
 

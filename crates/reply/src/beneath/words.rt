@@ -10,7 +10,7 @@ use field::refusal::Refusal;
 use headers::beneath::big_endian;
 
 // A call of the system that failed. Its reason, which the system has words for, comes behind these.
-#[derive(Clone, Copy)]
+#[derive(Clone, Copy, Debug, PartialEq, Eq)]
 pub enum Failure {
     Reading,
     Output,

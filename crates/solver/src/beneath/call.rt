@@ -23,8 +23,8 @@ pub fn run(
 ) -> Verdict
     requires { Admits r tables.now k t esis.now symbols.now rows.old values.old out.old }
     ensures means { Means (l_of r) t (system_of r tables.now k t esis.now symbols.now) out.old out.new result }
-    ensures written { Written (λ _. 0) rows.old rows.new 0 (equations r k (length esis.now) * l_of r) }
-    ensures written_2 { Written (λ _. 0) values.old values.new 0 (equations r k (length esis.now) * t) }
+    ensures rows_cleared { Written (λ _. 0) rows.old rows.new 0 (equations r k (length esis.now) * l_of r) }
+    ensures values_cleared { Written (λ _. 0) values.old values.new 0 (equations r k (length esis.now) * t) }
 {
     let n = t as usize;
     let m = sizes::m(r, k, esis.len());

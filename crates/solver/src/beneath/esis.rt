@@ -6,12 +6,5 @@ ghost use Rattle.solver.specs.Display.{any_large};
 pub fn any_large(esis: &[u32]) -> bool
     ensures { result ≡ any_large esis.now }
 {
-    let mut i = 0;
-    while i < esis.len() {
-        if esis[i] >= 16777216 {
-            return true;
-        }
-        i += 1;
-    }
-    false
+    esis.iter().any(|&e| e >= 16777216)
 }

@@ -1,10 +1,18 @@
 // Ported from matrix.rs of raptorq 2.0.1 (Apache-2.0) and changed.
 // Rows of bits in lent words: column c of the row that begins at word `at` is bit c mod 64 of word at + c / 64.
-ghost use Rattle.std.specs.Prelude.{◌≡◌, ◌+◌, ◌*◌, ◌/◌, ◌%◌, ◌≤◌, ◌<◌, min, length, get_or};
+ghost use Rattle.std.specs.Prelude.{◌≡◌, ◌+◌, ◌*◌, ◌/◌, ◌%◌, ◌≤◌, ◌<◌, length, get_or};
 ghost use Rattle.field.specs.Runs.{Apart, Written, added, part};
 ghost use Rattle.stores.specs.Bits.{bit, bit_at, crossed_from, crossing, with_bit};
 ghost use Rattle.stores.specs.Rows.{Exchanged, packed_to};
 ghost use Rattle.stores.specs.Counting.{tally};
+ghost use Rattle.stores.specs.Matrix.{row_words};
+
+// The words of a row.
+pub fn row_word_width(width: usize) -> usize
+    ensures { result ≡ row_words width }
+{
+    width.div_ceil(64)
+}
 
 pub fn get(ws: &[u64], at: usize, c: usize) -> u64
     requires { at + c / 64 < length ws.now }
@@ -30,11 +38,7 @@ pub fn clear(ws: &mut [u64], n: usize)
     requires { n ≤ length ws.old }
     ensures { Written (λ k. 0) ws.old ws.new 0 n }
 {
-    let mut i = 0;
-    while i < n {
-        ws[i] = 0;
-        i += 1;
-    }
+    ws[..n].fill(0);
 }
 
 // The n words at `to` become their sums with those at `from`.
@@ -42,12 +46,8 @@ pub fn add(ws: &mut [u64], n: usize, to: usize, from: usize)
     requires { Apart (length ws.old) n to from }
     ensures { Written (added ws.old to (part ws.old from n)) ws.old ws.new to n }
 {
-    let mut k = 0;
-    while k < n {
-        let d = to + k;
-        let s = from + k;
-        ws[d] = ws[d] ^ ws[s];
-        k += 1;
+    for k in 0..n {
+        ws[to + k] ^= ws[from + k];
     }
 }
 
@@ -56,28 +56,8 @@ pub fn swap(ws: &mut [u64], n: usize, i: usize, j: usize)
     requires { Apart (length ws.old) n i j }
     ensures { Exchanged ws.old ws.new i j n }
 {
-    let mut k = 0;
-    while k < n {
-        let p = i + k;
-        let q = j + k;
-        let x = ws[p];
-        ws[p] = ws[q];
-        ws[q] = x;
-        k += 1;
-    }
-}
-
-// The n words at `from` are copied down to `to`, the first word first, so that the two may overlap.
-pub fn move_down(ws: &mut [u64], n: usize, to: usize, from: usize)
-    requires { (to ≤ from) × (from + n ≤ length ws.old) }
-    ensures { Written (λ k. get_or ws.old (from + k) 0) ws.old ws.new to n }
-{
-    let mut k = 0;
-    while k < n {
-        let d = to + k;
-        let s = from + k;
-        ws[d] = ws[s];
-        k += 1;
+    for k in 0..n {
+        ws.swap(i + k, j + k);
     }
 }
 
@@ -100,12 +80,6 @@ fn count_bits(w: u64, b: usize, m: usize) -> usize
     u64::count_ones((w >> b) << (64 - m)) as usize
 }
 
-fn smaller(a: usize, b: usize) -> usize
-    ensures { result ≡ min a b }
-{
-    if a < b { a } else { b }
-}
-
 // How many of the n columns from `start` on are ones, a word at a time.
 pub fn count(ws: &[u64], at: usize, start: usize, n: usize) -> usize
     requires { (start + n ≤ 65535) × (at + (start + n + 63) / 64 ≤ length ws.now) }
@@ -116,7 +90,7 @@ pub fn count(ws: &[u64], at: usize, start: usize, n: usize) -> usize
     while k < n {
         let c = start + k;
         let b = c % 64;
-        let m = smaller(64 - b, n - k);
+        let m = (64 - b).min(n - k);
         ones += count_bits(ws[at + c / 64], b, m);
         k += m;
     }
@@ -128,17 +102,12 @@ pub fn cross_rows(ws: &mut [u64], n: usize, height: usize, a: usize, b: usize, s
     requires { (a / 64 < n) × (b / 64 < n) × (height * n ≤ length ws.old) }
     ensures { Written (crossed_from ws.old n a b start) ws.old ws.new 0 (height * n) }
 {
-    if height <= start {
-        return;
-    }
-    let mut r = start;
-    while r < height {
+    for r in start..height {
         cross(ws, r * n, n, a, b);
-        r += 1;
     }
 }
 
-// Rows of `old` words are packed to rows of their first n words.
+// Rows of `old` words are packed to rows of their first n words, each read before a later one is written.
 pub fn pack(ws: &mut [u64], rows: usize, n: usize, old: usize)
     requires { (n ≤ old) × (rows * old ≤ length ws.old) }
     ensures { Written (packed_to ws.old n old) ws.old ws.new 0 (rows * n) }
@@ -146,9 +115,8 @@ pub fn pack(ws: &mut [u64], rows: usize, n: usize, old: usize)
     if n == old {
         return;
     }
-    let mut r = 0;
-    while r < rows {
-        move_down(ws, n, r * n, r * old);
-        r += 1;
+    for r in 0..rows {
+        let from = r * old;
+        ws.copy_within(from..from + n, r * n);
     }
 }

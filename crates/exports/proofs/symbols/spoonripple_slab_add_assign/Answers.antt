@@ -1,16 +1,7 @@
 -- `exports::symbols::spoonripple_slab_add_assign` meets its contract: count and room, then it tells what `symbol_slab::add_assign` answered.
 -- Assumes nothing.
-use mathlib.Core.Path.{refl}
-use Rattle.exports.specs.Stores.{countable}
-use Rattle.exports.proofs.Calls.{zero-told, zero-untold}
+use Rattle.exports.proofs.Calls.{zero-told}
 use Rattle.exports.proofs.symbols.spoonripple_slab_add_assign.Goals as goal
 
-pub returns-in_default : goal.returns-in_default
-returns-in_default c =
-    let limits = countable c.args.count in
-    zero-untold limits _ c.fits-fine.result c.fits-fine.ensures _ c.in_default.is c.told.ensures refl refl
-
 pub returns : goal.returns
-returns c =
-    let limits = countable c.args.count in
-    zero-told limits _ c.fits-fine.result c.fits-fine.ensures c.add_assign.result c.in-Done.is c.add_assign.ensures c.hand_zero.ensures
+returns c = zero-told c.in_default.ensures c.add_assign.result c.add_assign.ensures c.hand.ensures c.told.ensures

@@ -1,16 +1,7 @@
 -- `exports::symbols::spoonripple_slab_fma` meets its contract: count and room, then it tells what `symbol_slab::fma` answered.
 -- Assumes nothing.
-use mathlib.Core.Path.{refl}
-use Rattle.exports.specs.Stores.{countable}
-use Rattle.exports.proofs.Calls.{zero-told, zero-untold}
+use Rattle.exports.proofs.Calls.{zero-told}
 use Rattle.exports.proofs.symbols.spoonripple_slab_fma.Goals as goal
 
-pub returns-in_default : goal.returns-in_default
-returns-in_default c =
-    let limits = countable c.args.count in
-    zero-untold limits _ c.fits-fine.result c.fits-fine.ensures _ c.in_default.is c.told.ensures refl refl
-
 pub returns : goal.returns
-returns c =
-    let limits = countable c.args.count in
-    zero-told limits _ c.fits-fine.result c.fits-fine.ensures c.fma.result c.in-Done.is c.fma.ensures c.hand_zero.ensures
+returns c = zero-told c.in_default.ensures c.fma.result c.fma.ensures c.hand.ensures c.told.ensures

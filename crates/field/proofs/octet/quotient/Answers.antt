@@ -1,9 +1,7 @@
 use mathlib.Core.Path.{◌≡◌, sym, ap, ap₂, ◌∙◌}
-use Prim.Native.Nat.{ℕ, ◌/◌, ◌%◌}
+use Prim.Native.Nat.{ℕ, ◌/◌}
 use native.Mathlib.Omega.{arith}
-use lib.Dec.{eqb}
 use Rattle.field.specs.Octet.{times}
-use Rattle.field.proofs.Laws.{pick-lt, times-lt}
 use Rattle.field.proofs.Powers.{nth, nth-half, nth-none, over-nth}
 use Rattle.field.proofs.octet.quotient.Goals as goal
 
@@ -12,12 +10,14 @@ loop-exponent-init c = (c.ranges.a.fits, sym (over-nth c.args.a c.args.by))
 
 pub loop-exponent-preserved : goal.loop-exponent-preserved
 loop-exponent-preserved c =
-    let e = c.mul_if_odd-product.ensures in (
-      rw e (pick-lt (eqb (c.loop-exponent.exponent % 2) 1) (times-lt c.loop-exponent.product c.loop-exponent.square) c.loop-exponent.invariant.0),
-      ap₂ (λ (x y : ℕ). times x (nth (c.loop-exponent.exponent / 2) y)) e c.mul-square.ensures ∙ nth-half c.loop-exponent.exponent c.loop-exponent.product c.loop-exponent.square ∙ c.loop-exponent.invariant.1,
+    let l = c.loop-exponent in (
+      omega arith,
+      ap₂ (λ (x y : ℕ). times x (nth (l.exponent / 2) y)) c.mul_if_odd-product.ensures c.mul-square.ensures
+          ∙ nth-half l.exponent l.product l.square ∙ l.invariant.1,
     )
 
 pub returns : goal.returns
 returns c =
-    let none : c.loop-exponent.exponent ≡ 0 = omega arith in
-    sym (ap (λ (n : ℕ). times c.loop-exponent.product (nth n c.loop-exponent.square)) none ∙ nth-none c.loop-exponent.product c.loop-exponent.square c.loop-exponent.invariant.0) ∙ c.loop-exponent.invariant.1
+    let l = c.loop-exponent in
+    let none : l.exponent ≡ 0 = omega arith in
+    sym (ap (λ (n : ℕ). times l.product (nth n l.square)) none ∙ nth-none l.product l.square l.invariant.0) ∙ l.invariant.1

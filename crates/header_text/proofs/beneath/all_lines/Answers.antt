@@ -14,4 +14,4 @@ returns c =
     lined-most
     (lined-append (info_lines start.info) (id_lines start.id ++ verdict_line (info_checked start.info)) c.info_lines-after_info.ensures
     (lined-append (id_lines start.id) (verdict_line (info_checked start.info)) c.id_lines-after_id.ensures
-    (lined-is c.verdict_line.ensures (ap verdict_line c.check-verdict.ensures)))) (omega arith)
+    (lined-is c.verdict_line.ensures (ap verdict_line c.check.ensures)))) (omega arith)

@@ -1,10 +1,10 @@
 -- `header_text::beneath::refusal_line` meets its contract.
 -- Assumes nothing.
-use mathlib.Core.Path.{sym, ap, ◌∙◌}
+use Rattle.std.proofs.Common.{[], ◌∷◌, sym, ◌∙◌}
 use Rattle.field.proofs.Answers.{code-number}
-use Rattle.header_text.specs.Text.{refused_line}
-use Rattle.header_text.proofs.Lines.{lined-is}
+use Rattle.header_text.proofs.Lines.{line-of}
 use Rattle.header_text.proofs.beneath.refusal_line.Goals as goal
 
 pub returns : goal.returns
-returns c = lined-is c.number_line.ensures (ap refused_line (c.number.ensures ∙ sym (code-number c.args.why)))
+returns c =
+    line-of (114 ∷ 101 ∷ 102 ∷ 117 ∷ 115 ∷ 101 ∷ 100 ∷ 32 ∷ []) c.number_line.ensures (c.from.ensures ∙ c.number.ensures ∙ sym (code-number c.args.why))

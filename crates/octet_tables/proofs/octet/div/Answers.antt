@@ -8,9 +8,6 @@ use Rattle.field.specs.Answer.{given}
 use Rattle.field.proofs.Laws.{zero-over, logarithm-lt, over-logarithm}
 use Rattle.octet_tables.proofs.octet.div.Goals as goal
 
-pub returns-then-by-eq0 : goal.returns-then-by-eq0
-returns-then-by-eq0 c = rw c.if-by-eq0.true
-
 pub returns-then-a-eq0 : goal.returns-then-a-eq0
 returns-then-a-eq0 c =
     let start = c.args in

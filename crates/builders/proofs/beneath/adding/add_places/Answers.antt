@@ -1,26 +1,19 @@
+-- `builders::beneath::adding::add_places` meets its contract.
+-- Assumes nothing.
+use mathlib.Core.Path.{ap}
+use Prim.Native.Nat.{ℕ}
 use native.Mathlib.Omega.{arith}
-use Rattle.builders.proofs.Adding.{sums_none, sums-more, sums-is, lies-on}
+use Rattle.std.proofs.lemmas.Grind.{common_steps}
+use Rattle.constraints.specs.Ldpc.{adds}
+use Rattle.builders.proofs.Adding.{added-as, sums_none, sums-more}
 use Rattle.builders.proofs.beneath.adding.add_places.Invariants.{term}
 use Rattle.builders.proofs.beneath.adding.add_places.Goals as goal
 
-pub loop-k-init : goal.loop-k-init
-loop-k-init c =
+pub loop-j-init : goal.loop-j-init
+loop-j-init c = let a = c.args in sums_none (term a.i a.list.now) _
+
+pub loop-j-preserved : goal.loop-j-preserved
+loop-j-preserved c =
     let a = c.args in
-    (omega arith, sums_none (term a.i a.list.now) _)
-
-pub overflow_cast-j : goal.overflow_cast-j
-overflow_cast-j c = omega (arith, c.type_inv.list c.loop-k.k)
-
-pub add_one-requires : goal.add_one-requires
-add_one-requires c = (lies-on c.requires.0 c.loop-k.invariant.1.size, c.requires.1, c.requires.3 c.loop-k.k c.loop-k-test.true)
-
-pub loop-k-preserved : goal.loop-k-preserved
-loop-k-preserved c =
-    let a = c.args in
-    (omega arith, sums-more (term a.i a.list.now) c.loop-k.k c.loop-k.invariant.1 c.add_one.ensures)
-
-pub shape_of-ws : goal.shape_of-ws
-shape_of-ws c = c.loop-k.invariant.1.size
-
-pub returns : goal.returns
-returns c = let a = c.args in sums-is (term a.i a.list.now) c.loop-k.invariant.1 (omega arith)
+    sums-more (term a.i a.list.now) c.loop-j.j-index c.loop-j.invariant
+    (added-as c.add_one.ensures (λ r q. ap (λ (x : ℕ). adds r q a.i x) (grind (arith, common_steps))))

@@ -1,6 +1,6 @@
 -- `builders::beneath::adding::endings` meets its contract: after k turns the first k terms of the sum are added.
 -- Assumes nothing.
-use Prim.Native.Nat.{ℕ, ◌+◌, ◌-◌, ◌%◌, ◌≤◌}
+use Prim.Native.Nat.{ℕ, ◌+◌, ◌%◌}
 use Rattle.field.specs.Octet.{plus}
 use Rattle.field.specs.Sum.{sum}
 use Rattle.constraints.specs.Ldpc.{adds}
@@ -11,7 +11,4 @@ abbrev pub term : ℕ → ℕ → ℕ → ℕ → ℕ → ℕ
 term w p r c k = plus (adds r c k (w + k % p)) (adds r c k (w + (k + 1) % p))
 
 abbrev pub invariant-loop-k : goal.invariant-loop-k
-invariant-loop-k l = (l.k ≤ l.s) × Added (λ r c. sum l.k (term l.w l.p r c)) l.initial.ws l.ws l.m
-
-abbrev pub decreases-loop-k : goal.decreases-loop-k
-decreases-loop-k l = l.s - l.k
+invariant-loop-k l = Added (λ r c. sum l.k (term l.w l.p r c)) l.initial.ws l.ws l.m

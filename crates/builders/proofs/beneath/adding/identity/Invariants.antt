@@ -1,6 +1,6 @@
 -- `builders::beneath::adding::identity` meets its contract: after k turns the first k terms of the sum are added.
 -- Assumes nothing.
-use Prim.Native.Nat.{ℕ, ◌+◌, ◌-◌, ◌≤◌}
+use Prim.Native.Nat.{ℕ, ◌+◌}
 use Rattle.field.specs.Sum.{sum}
 use Rattle.constraints.specs.Ldpc.{adds}
 use Rattle.builders.specs.Adding.{Added}
@@ -10,7 +10,4 @@ abbrev pub term : ℕ → ℕ → ℕ → ℕ → ℕ
 term b r c k = adds r c k (b + k)
 
 abbrev pub invariant-loop-k : goal.invariant-loop-k
-invariant-loop-k l = (l.k ≤ l.s) × Added (λ r c. sum l.k (term l.b r c)) l.initial.ws l.ws l.m
-
-abbrev pub decreases-loop-k : goal.decreases-loop-k
-decreases-loop-k l = l.s - l.k
+invariant-loop-k l = Added (λ r c. sum l.k (term l.b r c)) l.initial.ws l.ws l.m

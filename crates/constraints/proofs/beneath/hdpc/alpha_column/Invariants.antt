@@ -7,7 +7,4 @@ use Rattle.constraints.specs.Grid.{Column}
 use Rattle.constraints.proofs.beneath.hdpc.alpha_column.Given as goal
 
 abbrev pub invariant-loop-i : goal.invariant-loop-i
-invariant-loop-i l = (l.i ≤ l.h) × (l.x ≡ power l.i) × Column power l.initial.out l.out l.at l.i l.l l.c
-
-abbrev pub decreases-loop-i : goal.decreases-loop-i
-decreases-loop-i l = l.h - l.i
+invariant-loop-i l = (l.x ≡ power l.i) × Column power l.initial.out l.out l.at l.i l.l l.c

@@ -8,7 +8,7 @@ use Rattle.constraints.proofs.Product.{mt-ones, mt-last}
 use Rattle.constraints.proofs.beneath.hdpc.mt.Goals as goal
 
 pub returns-then-c-n : goal.returns-then-c-n
-returns-then-c-n c = c.alpha.ensures ∙ sym (mt-last _ _ _ _ _ (sym c.if-c-n.true))
+returns-then-c-n c = c.power.ensures ∙ sym (mt-last _ _ _ _ _ (sym c.if-c-n.true))
 
 pub returns : goal.returns
 returns c =

@@ -8,7 +8,6 @@ use Rattle.constraints.specs.Grid.{Column}
 use Rattle.constraints.proofs.beneath.hdpc.next_column.Given as goal
 
 abbrev pub invariant-loop-i : goal.invariant-loop-i
-invariant-loop-i l = (l.i ≤ l.h) × Column (λ r. plus (plus (doubled (get_or l.initial.out (l.at + r * l.l + l.c + 1) 0)) (unit r l.a)) (unit r l.b)) l.initial.out l.out l.at l.i l.l l.c
-
-abbrev pub decreases-loop-i : goal.decreases-loop-i
-decreases-loop-i l = l.h - l.i
+invariant-loop-i l =
+    Column (λ r. plus (plus (doubled (get_or l.initial.out (l.at + r * l.l + l.c + 1) 0)) (unit r l.a)) (unit r l.b))
+    l.initial.out l.out l.at l.i l.l l.c

@@ -6,7 +6,4 @@ use Rattle.constraints.specs.Grid.{Column}
 use Rattle.constraints.proofs.beneath.hdpc.unit_column.Given as goal
 
 abbrev pub invariant-loop-i : goal.invariant-loop-i
-invariant-loop-i l = (l.i ≤ l.h) × Column (λ r. unit r l.one) l.initial.out l.out l.at l.i l.l l.c
-
-abbrev pub decreases-loop-i : goal.decreases-loop-i
-decreases-loop-i l = l.h - l.i
+invariant-loop-i l = Column (λ r. unit r l.one) l.initial.out l.out l.at l.i l.l l.c

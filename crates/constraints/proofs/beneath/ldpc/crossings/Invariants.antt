@@ -7,7 +7,4 @@ use Rattle.constraints.specs.Ldpc.{crossed}
 use Rattle.constraints.proofs.beneath.ldpc.crossings.Given as goal
 
 abbrev pub invariant-loop-c : goal.invariant-loop-c
-invariant-loop-c l = (l.c ≤ l.w - l.s) × (l.x < l.s) × (l.x ≡ l.c % l.s) × (l.a ≡ 1 + l.c / l.s) × Written (crossed l.s l.r) l.initial.out l.out l.at l.c
-
-abbrev pub decreases-loop-c : goal.decreases-loop-c
-decreases-loop-c l = l.w - l.s - l.c
+invariant-loop-c l = (l.x < l.s) × (l.x ≡ l.c % l.s) × (l.a ≡ 1 + l.c / l.s) × Written (crossed l.s l.r) l.initial.out l.out l.at l.c

@@ -6,7 +6,4 @@ use Rattle.field.specs.Sum.{unit}
 use Rattle.constraints.proofs.beneath.unit.one_of.Given as goal
 
 abbrev pub invariant-loop-k : goal.invariant-loop-k
-invariant-loop-k l = (l.k ≤ l.n) × Written (λ i. unit i l.x) l.initial.out l.out l.at l.k
-
-abbrev pub decreases-loop-k : goal.decreases-loop-k
-decreases-loop-k l = l.n - l.k
+invariant-loop-k l = Written (λ i. unit i l.x) l.initial.out l.out l.at l.k

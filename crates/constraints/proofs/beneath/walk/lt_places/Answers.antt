@@ -7,22 +7,16 @@ use Rattle.constraints.proofs.Steps.{one_on, from_start}
 use Rattle.constraints.proofs.Lists.{lt-length, lt_at}
 use Rattle.constraints.proofs.beneath.walk.lt_places.Goals as goal
 
-pub loop-i-init : goal.loop-i-init
-loop-i-init c = (omega arith, omega arith, from_start c.args.a (omega arith), written_none _ _ _)
-
 pub loop-i-preserved : goal.loop-i-preserved
 loop-i-preserved c =
-    let a = c.args in (
-      omega arith,
+    let a = c.args in
+    let h = c.loop-i.invariant in (
       mod-lt (c.loop-i.x + a.a) (omega arith),
-      ap (λ (x : ℕ). (x + a.a) % a.w) c.loop-i.invariant.2 ∙ one_on _ _ _ _,
-      written-more c.loop-i.invariant.3 (omega arith) (omega arith) (c.loop-i.invariant.2 ∙ sym (lt_at a.w a.a a.d a.b c.loop-i.i (omega arith) (omega arith))),
+      ap (λ (x : ℕ). (x + a.a) % a.w) h.1 ∙ one_on _ _ _ _,
+      written-more h.2 (omega arith) (omega arith) (h.1 ∙ sym (lt_at a.w a.a a.d a.b c.loop-i.i (omega arith) (omega arith))),
     )
-
-pub shape_of-list : goal.shape_of-list
-shape_of-list c = c.loop-i.invariant.3.size
 
 pub returns : goal.returns
 returns c =
     let a = c.args in
-    written_is c.loop-i.invariant.3 (omega (arith, lt-length a.w a.a a.d a.b))
+    written_is c.loop-i.invariant.2 (omega (arith, lt-length a.w a.a a.d a.b))

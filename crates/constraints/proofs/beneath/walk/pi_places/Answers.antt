@@ -8,21 +8,17 @@ use Rattle.constraints.proofs.beneath.walk.pi_places.Goals as goal
 
 pub loop-i-init : goal.loop-i-init
 unfolding start
-loop-i-init c = (omega arith, omega arith, refl, written_none _ _ _)
+loop-i-init c = (omega arith, refl, written_none _ _ _)
 
 pub loop-i-preserved : goal.loop-i-preserved
 loop-i-preserved c =
-    let a = c.args in (
-      omega arith,
-      mod-lt (c.land-y.result + a.a) (omega arith),
-      start-on _ _ _ _ _ _ _ c.loop-i.invariant.2 c.land-y.ensures.0,
-      written-more c.loop-i.invariant.3 refl (omega arith) (pi-is _ _ _ _ _ _ _ _ _ (omega arith) c.loop-i.invariant.2 c.land-y.ensures.0),
+    let h = c.loop-i.invariant in (
+      mod-lt (c.land-y.result + c.args.a) (omega arith),
+      start-on _ _ _ _ _ _ _ h.1 c.land-y.ensures.0,
+      written-more h.2 refl (omega arith) (pi-is _ _ _ _ _ _ _ _ _ (omega arith) h.1 c.land-y.ensures.0),
     )
-
-pub shape_of-list : goal.shape_of-list
-shape_of-list c = c.loop-i.invariant.3.size
 
 pub returns : goal.returns
 returns c =
     let a = c.args in
-    written_is c.loop-i.invariant.3 (omega (arith, pi-length a.p a.p1 a.a a.w a.d a.b))
+    written_is c.loop-i.invariant.2 (omega (arith, pi-length a.p a.p1 a.a a.w a.d a.b))

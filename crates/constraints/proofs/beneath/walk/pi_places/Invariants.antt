@@ -9,7 +9,6 @@ use Rattle.constraints.proofs.Lists.{start}
 use Rattle.constraints.proofs.beneath.walk.pi_places.Given as goal
 
 abbrev pub invariant-loop-i : goal.invariant-loop-i
-invariant-loop-i l = (l.i ≤ l.d) × (l.x < l.p1) × (l.x ≡ start l.p l.p1 l.a l.i l.b) × Written (λ k. get_or (pi_places l.w l.p l.p1 l.a l.d l.b) k 0) l.initial.list l.list l.from l.i
-
-abbrev pub decreases-loop-i : goal.decreases-loop-i
-decreases-loop-i l = l.d - l.i
+invariant-loop-i l =
+    let all = pi_places l.w l.p l.p1 l.a l.d l.b in
+    (l.x < l.p1) × (l.x ≡ start l.p l.p1 l.a l.i l.b) × Written (λ k. get_or all k 0) l.initial.list l.list l.from l.i

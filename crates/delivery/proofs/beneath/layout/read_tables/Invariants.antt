@@ -1,12 +1,8 @@
 -- `delivery::beneath::layout::read_tables` meets its contract: after i turns the first i numbers are there.
 -- Assumes nothing.
-use Prim.Native.Nat.{◌-◌, ◌≤◌}
 use Rattle.field.specs.Runs.{Written}
 use Rattle.delivery.specs.Layout.{entry_at}
 use Rattle.delivery.proofs.beneath.layout.read_tables.Given as goal
 
 abbrev pub invariant-loop-i : goal.invariant-loop-i
-invariant-loop-i l = (l.i ≤ 1024) × Written (entry_at l.bytes) l.initial.tables l.tables 0 l.i
-
-abbrev pub decreases-loop-i : goal.decreases-loop-i
-decreases-loop-i l = 1024 - l.i
+invariant-loop-i l = Written (entry_at l.bytes) l.initial.tables l.tables 0 l.i

@@ -1,8 +1,9 @@
-use mathlib.Core.Path.{◌≡◌, refl, ◌∙◌}
+use mathlib.Core.Path.{◌≡◌}
 use mathlib.Core.List.{List}
 use Prim.Native.Nat.{ℕ, ◌+◌, ◌-◌, ◌≤◌, ◌<◌}
 use native.Mathlib.Omega.{arith}
 use lib.ListN.{length, take, drop}
+use Rattle.std.proofs.Common.{rules}
 use Rattle.delivery.specs.Layout.{count_of, packet_at, packet_of}
 use Rattle.delivery.proofs.Gathering.{packet-ends, packets-in, part-packet, others-none, others-most}
 use Rattle.delivery.proofs.Settling.{heard-one, tallied, heard_all, passed_is}
@@ -22,7 +23,7 @@ packet-is d t {n} {i} h e l =
     part-packet d t i (count_of (length d) t) q (packets-in (length d) t h)
 
 pub loop-i-init : goal.loop-i-init
-loop-i-init c = (omega arith, others-none c.args.bytes.now c.args.t, c.requires.holding, refl, refl, refl, refl)
+loop-i-init c = record { others = others-none c.args.bytes.now c.args.t; heard = c.requires.opened; lent = search rules }
 
 pub overflow_mul-at : goal.overflow_mul-at
 overflow_mul-at c = omega (arith, ends c.args.bytes.now c.args.t c.requires.in_bounds.0 c.count-n.ensures c.loop-i-test.true)
@@ -37,57 +38,33 @@ pub slice_bounds-hear-end : goal.slice_bounds-hear-end
 slice_bounds-hear-end c = omega (arith, ends c.args.bytes.now c.args.t c.requires.in_bounds.0 c.count-n.ensures c.loop-i-test.true)
 
 pub hear-own-requires : goal.hear-own-requires
-hear-own-requires c =
-    omega (
-      arith,
-      (packet-is c.args.bytes.now c.args.t c.requires.in_bounds.0 c.count-n.ensures
-          c.loop-i-test.true).1,
-    )
+hear-own-requires c = omega (arith, (packet-is c.args.bytes.now c.args.t c.requires.in_bounds.0 c.count-n.ensures c.loop-i-test.true).1)
 
 pub tally-others-requires : goal.tally-others-requires
 tally-others-requires c =
     omega (
       arith,
       ends c.args.bytes.now c.args.t c.requires.in_bounds.0 c.count-n.ensures c.loop-i-test.true,
-      c.loop-i.invariant.1,
+      c.loop-i.invariant.others,
       others-most c.args.bytes.now c.args.t c.loop-i.i,
     )
 
 pub loop-i-preserved : goal.loop-i-preserved
 loop-i-preserved c =
     let d = c.args.bytes.now in
-    let p = packet-is d c.args.t c.requires.in_bounds.0 c.count-n.ensures c.loop-i-test.true in (
-      omega (arith, c.loop-i-test.true),
-      tallied d c.args.t c.loop-i.i p.0 c.hear-own.ensures.value c.loop-i.invariant.1 c.tally-others.ensures.0,
-      heard-one d c.loop-i.i c.requires.in_bounds.1 p.0 p.1 c.hear-own.ensures.hears_more c.loop-i.invariant.2,
-      c.hear-own.auto.state ∙ c.loop-i.invariant.3,
-      c.hear-own.auto.pivots ∙ c.loop-i.invariant.4,
-      c.hear-own.auto.rows ∙ c.loop-i.invariant.5,
-      c.hear-own.auto.values ∙ c.loop-i.invariant.6,
-    )
-
-pub shape_of-state : goal.shape_of-state
-shape_of-state c = c.loop-i.invariant.3
-
-pub shape_of-pivots : goal.shape_of-pivots
-shape_of-pivots c = c.loop-i.invariant.4
-
-pub shape_of-rows : goal.shape_of-rows
-shape_of-rows c = c.loop-i.invariant.5
-
-pub shape_of-values : goal.shape_of-values
-shape_of-values c = c.loop-i.invariant.6
+    let p = packet-is d c.args.t c.requires.in_bounds.0 c.count-n.ensures c.loop-i-test.true in
+    record {
+      others = tallied d c.args.t c.loop-i.i p.0 c.hear-own.ensures.value c.loop-i.invariant.others c.tally-others.ensures.0;
+      heard = heard-one d c.loop-i.i c.loop-i.memory c.hear-own.new.memory c.requires.in_bounds.1 p.0 p.1 c.hear-own.ensures.hears_more c.loop-i.invariant.heard;
+      lent = search rules;
+    }
 
 pub returns-clause-value : goal.returns-clause-value
 returns-clause-value c =
-    let d = c.args.bytes.now in
-    let n = c.count-n.ensures in
     let e : c.loop-i.i ≡ c.count-n.result = omega arith in
-    passed_is d c.requires.in_bounds.1 n e c.loop-i.invariant.1
+    passed_is c.args.bytes.now c.requires.in_bounds.1 c.count-n.ensures e c.loop-i.invariant.others
 
-pub returns-clause-holding_2 : goal.returns-clause-holding_2
-returns-clause-holding_2 c =
-    let d = c.args.bytes.now in
-    let n = c.count-n.ensures in
+pub returns-clause-heard : goal.returns-clause-heard
+returns-clause-heard c =
     let e : c.loop-i.i ≡ c.count-n.result = omega arith in
-    heard_all d c.requires.in_bounds.1 n e c.loop-i.invariant.2
+    heard_all c.args.bytes.now c.loop-i.memory c.requires.in_bounds.1 c.count-n.ensures e c.loop-i.invariant.heard

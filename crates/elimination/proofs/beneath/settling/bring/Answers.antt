@@ -3,25 +3,14 @@ use Prim.Native.Nat.{◌+◌, ◌*◌, ◌-◌}
 use native.Mathlib.Omega.{arith}
 use Rattle.linear.proofs.Back.{brought-begin, brought-from}
 use Rattle.linear.proofs.Rows.{only-refl, only_row, only-trans}
-use Rattle.elimination.proofs.Rows.{row-in, rows_apart}
 use Rattle.elimination.proofs.Settling.{brought-on, brought-at}
 use Rattle.elimination.proofs.beneath.settling.bring.Goals as goal
-
-pub copy_row-requires : goal.copy_row-requires
-copy_row-requires c = (row-in c.args.l c.args.t c.args.p c.requires.2 c.requires.3, c.requires.1)
 
 pub loop-x-init : goal.loop-x-init
 loop-x-init c =
     let f = c.first_other-x.ensures in
     let u = c.copy_row.ensures in
     (omega (arith, f.least), f.most, only-refl, brought-on _ _ _ _ refl f (brought-begin _ _ _ (λ b h. u.part b h)))
-
-pub add-requires : goal.add-requires
-add-requires c =
-    let v = c.loop-x.invariant in
-    let x = c.loop-x.x in
-    let h = c.loop-x-test.true in
-    rows_apart c.args.l c.args.t c.args.p (x - c.args.q * c.args.l) c.requires.2 (omega (arith, v.0, h)) (λ e. omega (arith, v.0)) (omega (arith, v.2.size, c.requires.3))
 
 pub loop-x-preserved : goal.loop-x-preserved
 loop-x-preserved c =

@@ -6,7 +6,9 @@ use Rattle.linear.specs.Rows.{OnlyBelow}
 use Rattle.elimination.proofs.beneath.settling.bring.Given as goal
 
 abbrev pub invariant-loop-x : goal.invariant-loop-x
-invariant-loop-x l = (l.q * l.l + l.p < l.x) × (l.x ≤ l.q * l.l + l.l) × OnlyBelow (l.l * l.t) l.initial.out l.out × Brought l.l l.t (l.x - l.q * l.l) l.q l.p l.rows l.values l.initial.out l.out
+invariant-loop-x l =
+    (l.q * l.l + l.p < l.x) × (l.x ≤ l.q * l.l + l.l) × OnlyBelow (l.l * l.t) l.initial.out l.out
+    × Brought l.l l.t (l.x - l.q * l.l) l.q l.p l.rows l.values l.initial.out l.out
 
 abbrev pub decreases-loop-x : goal.decreases-loop-x
 decreases-loop-x l = l.q * l.l + l.l - l.x

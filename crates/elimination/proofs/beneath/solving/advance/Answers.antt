@@ -8,13 +8,17 @@ use Rattle.elimination.proofs.beneath.solving.advance.Goals as goal
 
 pub take-requires-clause-lent : goal.take-requires-clause-lent
 take-requires-clause-lent c =
-    let row = c.copy_row.ensures.size ∙ c.requires.stores_room.2.row in
-    let symbol = c.lay_symbol-laid.ensures.row_copied.size ∙ c.requires.stores_room.2.symbol in
-    (lent-held _ (omega (arith, c.requires.stores_room.3)) c.requires.stores_room.0 c.requires.stores_room.1 c.requires.stepped, record { row = row; symbol = symbol }, c.lay_symbol-laid.ensures.value)
+    let (room, places, wide, l) = c.requires.stores_room in
+    let laid = c.lay_symbol-laid.ensures in (
+      lent-held _ (omega (arith, l)) room places c.requires.stepped,
+      record { row = c.copy_row.ensures.size ∙ wide.row; symbol = laid.row_copied.size ∙ wide.symbol },
+      laid.value,
+    )
 
-pub take-requires-clause-r_le_l : goal.take-requires-clause-r_le_l
-take-requires-clause-r_le_l c =
-    (rank-at-most c.requires.stepped, c.requires.stores_room.1.small, λ h. place-next c.requires.stores_room.3 c.requires.stores_room.0 c.requires.stores_room.1 h)
+pub take-requires-clause-room : goal.take-requires-clause-room
+take-requires-clause-room c =
+    let (room, places, wide, l) = c.requires.stores_room in
+    (rank-at-most c.requires.stepped, places.small, λ h. place-next l room places h)
 
 pub held_now-requires : goal.held_now-requires
 held_now-requires c = omega (arith, rank-at-most c.requires.stepped, c.requires.stores_room.1.small)
@@ -25,8 +29,9 @@ returns-clause-only_below c =
     became-only a.l a.t a.pivots.now a.rows.now a.values.now c.copy_row.new.store c.lay_symbol-laid.new.symbol
     c.take.new.pivots c.take.new.rows c.take.new.values c.requires.stores_room.3 c.take.result c.take.ensures
 
-pub returns-clause-by_index : goal.returns-clause-by_index
-returns-clause-by_index c =
-    let lent = lent-held _ (omega (arith, c.requires.stores_room.3)) c.requires.stores_room.0 c.requires.stores_room.1 c.requires.stepped in
+pub returns-clause-one_more : goal.returns-clause-one_more
+returns-clause-one_more c =
+    let (room, places, wide, l) = c.requires.stores_room in
+    let lent = lent-held _ (omega (arith, l)) room places c.requires.stepped in
     λ a₀ d₀ u. rw c.held_now.ensures (gone _ _ u c.copy_row.ensures c.lay_symbol-laid.ensures.row_copied lent
     c.take.new.pivots c.take.new.rows c.take.new.values c.take.result c.take.ensures)

@@ -6,9 +6,6 @@ use Rattle.linear.proofs.Keeping.{holds_kept}
 use Rattle.elimination.proofs.Joining.{still, take-followed, take-denied}
 use Rattle.elimination.proofs.beneath.taking.take.Goals as goal
 
-pub hold-requires : goal.hold-requires
-hold-requires c = (c.requires.r_le_l.2 (c.seek-c.ensures.vacant c.if-c-l.true), c.sift-zero.ensures.wide, c.if-c-l.true, c.requires.r_le_l.1)
-
 pub returns-then-c-l : goal.returns-then-c-l
 returns-then-c-l c =
     let h = c.if-c-l.true in
@@ -25,14 +22,10 @@ returns-then-c-l c =
 
 pub returns-then-zero : goal.returns-then-zero
 returns-then-zero c =
-    let lent = c.requires.lent.0 in
-    let k = c.seek-c.ensures in
     let z = sym c.sift-zero.ensures.value ∙ c.if-zero.true in
-    (still _ _ _, λ q. take-followed lent q (c.sift-zero.ensures.swept q) k (omega (arith, c.if-c-l.false)) z)
+    (still _ _ _, λ q. take-followed c.requires.lent.0 q (c.sift-zero.ensures.swept q) c.seek-c.ensures (omega (arith, c.if-c-l.false)) z)
 
 pub returns : goal.returns
 returns c =
-    let lent = c.requires.lent.0 in
-    let k = c.seek-c.ensures in
     let z = sym c.sift-zero.ensures.value ∙ c.if-zero.false in
-    (still _ _ _, λ q. take-denied lent q (c.sift-zero.ensures.swept q) k (omega (arith, c.if-c-l.false)) z)
+    (still _ _ _, λ q. take-denied c.requires.lent.0 q (c.sift-zero.ensures.swept q) c.seek-c.ensures (omega (arith, c.if-c-l.false)) z)

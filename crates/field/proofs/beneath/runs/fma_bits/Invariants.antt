@@ -1,12 +1,7 @@
 -- `field::beneath::runs::fma_bits` meets its contract: after i turns the first i places of the run hold the sum with the product.
 -- Assumes nothing.
-use Prim.Native.Nat.{◌-◌, ◌≤◌}
-use lib.ListN.{length}
 use Rattle.field.specs.Runs.{Written, fused}
 use Rattle.field.proofs.beneath.runs.fma_bits.Given as goal
 
 abbrev pub invariant-loop-i : goal.invariant-loop-i
-invariant-loop-i l = Written (fused l.initial.dst l.at l.c l.src) l.initial.dst l.dst l.at l.i × (l.i ≤ length l.src)
-
-abbrev pub decreases-loop-i : goal.decreases-loop-i
-decreases-loop-i l = length l.src - l.i
+invariant-loop-i l = Written (fused l.initial.dst l.at l.c l.src) l.initial.dst l.dst l.at l.i

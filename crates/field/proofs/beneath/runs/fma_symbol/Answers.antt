@@ -6,8 +6,4 @@ use Rattle.field.proofs.beneath.runs.fma_symbol.Goals as goal
 
 pub returns-then-c-eq1-clause-written : goal.returns-then-c-eq1-clause-written
 returns-then-c-eq1-clause-written c =
-    let s = c.args in
-    added-fused s.src.now s.c c.if-c-eq1.true (λ x. omega (arith, c.type_inv.src x)) c.add.ensures.written
-
-pub returns-then-c-eq1-clause-value : goal.returns-then-c-eq1-clause-value
-returns-then-c-eq1-clause-value c = c.add.ensures.value
+    added-fused c.args.src.now c.args.c c.if-c-eq1.true (λ x. omega (arith, c.type_inv.src x)) c.add.ensures.written

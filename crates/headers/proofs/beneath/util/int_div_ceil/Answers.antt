@@ -1,14 +1,18 @@
--- `headers::beneath::util::int_div_ceil` meets its contract.
+-- `headers::beneath::util::int_div_ceil` meets its contract: std's quotient rounded up is that of the definition.
 -- Assumes nothing.
-use Rattle.std.proofs.Common.{arith}
-use Rattle.headers.proofs.Quotient.{ceil-exact, ceil-more, quotient-lt}
+use Rattle.std.proofs.Common.{◌≡◌, ℕ, ◌%◌, ◌<◌, ◌∙◌, arith}
+use native.Mathlib.Decide.{ℕ_discrete}
+use Rattle.std.specs.Int.{div_ceil}
+use Rattle.headers.specs.Quotient.{ceil}
+use Rattle.headers.proofs.Quotient.{ceil-exact, ceil-more}
 use Rattle.headers.proofs.beneath.util.int_div_ceil.Goals as goal
 
-pub overflow_add-result : goal.overflow_add-result
-overflow_add-result c = omega (arith, quotient-lt c.args.num c.args.denom c.requires c.if-num-denom-eq0.false)
+rounded : (a b : ℕ) → 0 < b → div_ceil a b ≡ ceil a b
+rounded a b h = go (ℕ_discrete (a % b) 0)
+  where
+    go : Dec (a % b ≡ 0) → div_ceil a b ≡ ceil a b
+    go (yes e) = omega (arith, ceil-exact a b h e)
+    go (no d) = omega (arith, ceil-more a b h d)
 
-pub returns-then-num-denom-eq0 : goal.returns-then-num-denom-eq0
-returns-then-num-denom-eq0 c = ceil-exact c.args.num c.args.denom c.requires c.if-num-denom-eq0.true
-
-pub returns-else-num-denom-eq0 : goal.returns-else-num-denom-eq0
-returns-else-num-denom-eq0 c = ceil-more c.args.num c.args.denom c.requires c.if-num-denom-eq0.false
+pub returns : goal.returns
+returns c = c.div_ceil.ensures ∙ rounded c.args.num c.args.denom c.requires

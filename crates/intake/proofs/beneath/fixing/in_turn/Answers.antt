@@ -1,6 +1,6 @@
 -- `intake::beneath::fixing::in_turn` meets its contract: the padding rows come first.
 -- Assumes nothing.
-use mathlib.Core.Path.{sym}
+use Rattle.std.proofs.Common.{sym}
 use Rattle.intake.proofs.Fixed.{turn-first, turn-then}
 use Rattle.intake.proofs.beneath.fixing.in_turn.Goals as goal
 

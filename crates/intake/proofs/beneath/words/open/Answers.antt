@@ -1,9 +1,8 @@
 -- `intake::beneath::words::open` meets its contract: the front is written, and the tables behind it.
 -- Assumes nothing.
-use mathlib.Core.Path.{sym}
+use Rattle.std.proofs.Common.{sym, arith}
 use lib.ListN.{get_or-append}
 use lib.Seq.{get_or-append-add}
-use native.Mathlib.Omega.{arith}
 use Rattle.field.proofs.Writing.{written_as, written_is}
 use Rattle.field.proofs.Parts.{written_then}
 use Rattle.intake.specs.State.{front}

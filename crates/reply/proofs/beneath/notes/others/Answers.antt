@@ -17,11 +17,6 @@ use Rattle.reply.proofs.beneath.notes.others.Goals as goal
 abbrev pick_words : ℕ → Bool → List ℕ
 pick_words n none = pick none [] (ascii "note: packets of another block, passed over: " ++ (spelled 20 n ++ ascii "\n"))
 
-pub returns-then-n-eq0 : goal.returns-then-n-eq0
-returns-then-n-eq0 c =
-    let a = c.args in
-    lined-is (lined-none 66 a.out.now 0) (ap (pick_words a.n) (sym (eq-eqb a.n 0 c.if-n-eq0.true)))
-
 pub returns : goal.returns
 returns c =
     let a = c.args in

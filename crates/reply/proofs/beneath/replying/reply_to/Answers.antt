@@ -3,15 +3,9 @@
 use mathlib.Core.Path.{subst}
 use Rattle.reply.specs.Replies.{Said}
 use Rattle.reply.specs.declared.beneath.rows.Typed.{Typed}
-use Rattle.reply.proofs.Lines.{line-counts}
 use Rattle.reply.proofs.beneath.replying.reply_to.Goals as goal
 
 pub returns-clause-replied : goal.returns-clause-replied
 returns-clause-replied c =
     let u = subst (λ (t : Typed). Said t c.receive-what.new.out c.say-reply.new.out c.say-reply.result c.receive-what.result) c.typed_in-t.ensures c.say-reply.ensures.said in
     record { what = c.receive-what.result; store = c.receive-what.new.out; comes = c.receive-what.ensures.comes; noted = c.note-notes.ensures; said = u }
-
-pub returns-clause-prefix_len : goal.returns-clause-prefix_len
-returns-clause-prefix_len c =
-    let u = subst (λ (t : Typed). Said t c.receive-what.new.out c.say-reply.new.out c.say-reply.result c.receive-what.result) c.typed_in-t.ensures c.say-reply.ensures.said in
-    (line-counts c.note-notes.ensures, c.say-reply.ensures.in_store)

@@ -11,8 +11,3 @@ use Rattle.reply.proofs.beneath.rows.bands.Goals as goal
 pub returns-then-t-eq0 : goal.returns-then-t-eq0
 unfolding ceil
 returns-then-t-eq0 c = rw c.if-t-eq0.true (sym (div-zero _))
-
-pub returns-then-t : goal.returns-then-t
-returns-then-t c =
-    let t = c.args.t in
-    omega (arith, ceil-le (t.w - t.s) t.s (omega (arith, c.if-t-eq0.false)), c.if-t.true)

@@ -8,10 +8,12 @@ use Rattle.header_text.proofs.Lines.{lined-append, lined-is}
 use Rattle.header_text.specs.Text.{spelled}
 use Rattle.reply.specs.Ascii.{ascii}
 use Rattle.reply.proofs.Rows.{lined-line}
+use Rattle.reply.proofs.Lines.{lined-number}
+use mathlib.Core.Path.{◌∙◌}
 use Rattle.reply.proofs.beneath.rows.broken.Goals as goal
 
 pub returns : goal.returns
 returns c =
-    let front = lined-is c.numbered-after_part.ensures (ap (λ (x : ℕ). ascii "refused 4, part " ++ spelled 20 x) c.place.ensures) in
+    let part = lined-number (ascii "refused 4, part ") c.numbered-after_part.ensures (c.from.ensures ∙ c.place.ensures) in
     let rest = lined-append _ _ c.text-at.ensures (lined-append _ _ c.fault-end.ensures c.text.ensures) in
-    lined-line (lined-append _ _ front rest) (omega (arith, c.requires))
+    lined-line (lined-append _ _ part rest) (omega (arith, c.requires))

@@ -7,10 +7,10 @@ use native.Mathlib.Omega.{arith}
 use Rattle.header_text.proofs.Lines.{lined-append, lined-is, lined-most}
 use Rattle.header_text.specs.Text.{spelled}
 use Rattle.reply.specs.Ascii.{ascii}
+use Rattle.reply.proofs.Lines.{lined-number}
 use Rattle.reply.proofs.beneath.rows.l_fault.Goals as goal
 
 pub returns : goal.returns
 returns c =
-    let value = lined-is c.numbered-value.ensures (ap (λ (x : ℕ). ascii " = " ++ spelled 20 x) c.total.ensures) in
-    let rest = lined-append _ _ value c.text.ensures in
+    let rest = lined-append _ _ (lined-number (ascii " = ") c.numbered-value.ensures c.total.ensures) c.text.ensures in
     lined-most (lined-append _ _ c.sum-terms.ensures rest) (omega arith)

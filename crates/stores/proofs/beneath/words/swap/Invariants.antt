@@ -1,11 +1,7 @@
 -- `stores::beneath::words::swap` meets its contract: after k turns the first k words of the rows have changed places.
 -- Assumes nothing.
-use Prim.Native.Nat.{◌-◌, ◌≤◌}
 use Rattle.stores.specs.Rows.{Exchanged}
 use Rattle.stores.proofs.beneath.words.swap.Given as goal
 
 abbrev pub invariant-loop-k : goal.invariant-loop-k
-invariant-loop-k l = Exchanged l.initial.ws l.ws l.i l.j l.k × (l.k ≤ l.n)
-
-abbrev pub decreases-loop-k : goal.decreases-loop-k
-decreases-loop-k l = l.n - l.k
+invariant-loop-k l = Exchanged l.initial.ws l.ws l.i l.j l.k

@@ -1,2 +1,0 @@
--- What the contracts of `receive` cite.
-pub mod Input
