@@ -101,5 +101,8 @@ module _ {m : DenseBinaryMatrix} where
       → Added (λ r c. sum (k + 1) (f r c)) xs zs m
   sums-more f k u w = added_then u w (λ r c. ap (λ (n : ℕ). sum n (f r c)) (add-one k) ∙ sum-last k (f r c))
 
+  pub sums-is : (f : ℕ → ℕ → ℕ → ℕ) {k n : ℕ} {xs ys : List ℕ} → Added (λ r c. sum k (f r c)) xs ys m → k ≡ n → Added (λ r c. sum n (f r c)) xs ys m
+  sums-is f {k} {n} {xs} {ys} u e = subst (λ (i : ℕ). Added (λ r c. sum i (f r c)) xs ys m) e u
+
   pub lies-on : {xs ys : List ℕ} → Lies m xs → length ys ≡ length xs → Lies m ys
   lies-on l e = record { narrow = l.narrow; room = omega (arith, l.room) }

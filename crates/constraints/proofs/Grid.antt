@@ -40,6 +40,9 @@ column-more {f} {xs} {ys} {at} {i} {l} {c} {v} w p b e =
         let q : i ≡ r = omega arith in
         subst (λ (x : ℕ). get_or (set ys (at + i * l + c) v) (at + x * l + c) 0 ≡ f x) q (get_or-set_same ys (at + i * l + c) v 0 (omega (arith, w.size)) ∙ e)
 
+pub column-is : {f : ℕ → ℕ} {xs ys : List ℕ} {at i h l c : ℕ} → Column f xs ys at i l c → i ≡ h → Column f xs ys at h l c
+column-is {f} {xs} {ys} {at} {i} {h} {l} {c} w e = subst (λ (n : ℕ). Column f xs ys at n l c) e w
+
 -- the column to the right is as it was
 pub column-right : {f : ℕ → ℕ} {xs ys : List ℕ} {at i l c : ℕ} → Column f xs ys at i l c → c + 1 < l → (r : ℕ)
     → get_or ys (at + r * l + c + 1) 0 ≡ get_or xs (at + r * l + c + 1) 0
@@ -64,6 +67,9 @@ filled_more {g} {f} {xs} {ys} {zs} {at} {h} {l} {c} {d} w q b u e =
     here r k hr hk a (no t) =
         let y : c ≡ k = omega arith in
         subst (λ (x : ℕ). get_or zs (at + r * l + x) 0 ≡ g r x) y (u.part r hr ∙ e r hr)
+
+pub filled-self : {g : ℕ → ℕ → ℕ} {xs ys : List ℕ} {at h l c : ℕ} → FilledFrom g xs ys at h l c → FilledFrom g ys ys at h l c
+filled-self w = record { size = refl; part = w.part; low = λ k n. refl; high = λ k n. refl }
 
 pub filled_trans : {g : ℕ → ℕ → ℕ} {xs ys zs : List ℕ} {at h l c d : ℕ}
     → FilledFrom g xs ys at h l c → FilledFrom g ys zs at h l d → FilledFrom g xs zs at h l d

@@ -19,15 +19,19 @@ use Rattle.headers.proofs.Rules.{passed-row}
 use Rattle.headers.proofs.Accepted.{accepted, rejected}
 use Rattle.headers.proofs.Information.{info-obeying}
 use Rattle.delivery.specs.Layout.{info_of, row_in, t_of, k_of}
-use Rattle.delivery.specs.Screen.{stop_of, screened, shape_screen, info_screen, row_screen, tables_screen, rest_screen, screen}
+use Rattle.delivery.specs.Screen.{screened, shape_screen, info_screen, row_screen, tables_screen, rest_screen, screen}
 use Rattle.delivery.specs.declared.beneath.screen.Stop.{Stop}
 
-pub all-passed : {p : Outcome (Unit {0})} (x : Result (Unit {0}) Stop) → screened x ≡ p → x ≡ Ok tt → p ≡ given tt
-all-passed x q e = sym q ∙ ap screened e
+-- an answer that tells of what stands first
+module _ {p : Outcome (Unit {0})} (x : Result (Unit {0}) Stop) (q : screened x ≡ p) where
+  pub all-passed : x ≡ Ok tt → p ≡ given tt
+  all-passed e = sym q ∙ ap screened e
 
--- a row that the check refuses stops it there
-pub row-refused : (d : List ℕ) (k t n : ℕ) → verified (row_in d) ≡ refused n → refused n ≡ rest_screen d k t
-row-refused d k t n e = simp e
+  pub went-past : (o : Outcome (Unit {0})) → x ≡ Ok tt → before p o ≡ o
+  went-past o e = ap (λ (y : Outcome (Unit {0})). before y o) (all-passed e)
+
+  pub stopped-at : (o : Outcome (Unit {0})) (why : Stop) → x ≡ Err why → screened x ≡ before p o
+  stopped-at o why e = ap screened e ∙ sym (ap (λ (y : Outcome (Unit {0})). before y o) (sym q ∙ ap screened e))
 
 -- ---- what a screen that refuses nothing tells
 
@@ -80,3 +84,44 @@ module _ (d : List ℕ) (x : Result Row Refusal) (e : outcome x ≡ checked (row
 
   pub row-broken : (why : Refusal) → x ≡ Err why → verified (row_in d) ≡ refused (code_of why)
   row-broken why q = rejected (row_in d) (code_of why) (sym (ap outcome q) ∙ e)
+
+-- ---- the ways out of the whole screen
+
+module _ (d : List ℕ) where
+  pub too_short : length d < 32 → refused 8 ≡ screen d
+  unfolding screen
+  too_short h = simp (lt-ltb (length d) 32 h)
+
+  module _ (long : 32 ≤ length d) (o : ObjectTransmissionInformation) (e : o ≡ info_of d) (x : Result (Unit {0}) Stop) (q : screened x ≡ info_screen o) where
+    pub info-stopped : (why : Stop) → x ≡ Err why → screened x ≡ screen d
+    unfolding screen
+    info-stopped why s = rw (le-ltb (length d) 32 long) (stopped-at x (q ∙ ap info_screen e) (rest_screen d (k_of d) (t_of d)) why s)
+
+    pub info-passed : (k : ℕ) {y : Outcome (Unit {0})} → x ≡ Ok tt → k ≡ ceil o.transfer_length o.symbol_size
+        → y ≡ rest_screen d k o.symbol_size
+        → y ≡ screen d
+    unfolding screen
+    info-passed k {y} s f u =
+        rw (le-ltb (length d) 32 long)
+        (u ∙ ap (λ (n : ℕ). rest_screen d n o.symbol_size) f
+        ∙ ap (λ (p : ObjectTransmissionInformation). rest_screen d (ceil p.transfer_length p.symbol_size) p.symbol_size) e
+        ∙ sym (went-past x (q ∙ ap info_screen e) (rest_screen d (k_of d) (t_of d)) s))
+
+  -- a row that the check refuses stops it there
+  pub row-refused : (k t n : ℕ) → verified (row_in d) ≡ refused n → refused n ≡ rest_screen d k t
+  row-refused k t n e = simp e
+
+  -- past the row
+  module _ (r : Row) (e : r ≡ row_in d) (k t : ℕ) (x : Result (Unit {0}) Stop) (q : screened x ≡ row_screen r k t) where
+    pub row-stopped : (why : Stop) → x ≡ Err why → screened x ≡ rest_screen d k t
+    row-stopped why s = stopped-at x (q ∙ ap (λ (y : Row). row_screen y k t) e) (tables_screen d) why s
+
+    module _ (s : x ≡ Ok tt) where
+      past : rest_screen d k t ≡ tables_screen d
+      past = went-past x (q ∙ ap (λ (y : Row). row_screen y k t) e) (tables_screen d) s
+
+      pub tables-cut : length d < 4128 → refused 5 ≡ rest_screen d k t
+      tables-cut h = sym (past ∙ simp (lt-ltb (length d) 4128 h))
+
+      pub tables-whole : 4128 ≤ length d → given tt ≡ rest_screen d k t
+      tables-whole h = sym (past ∙ simp (le-ltb (length d) 4128 h))

@@ -79,9 +79,9 @@ tables-are d {xs} {ys} w e = sym (take_all 1024 ys (omega (arith, w.size))) ∙ 
 -- ---- it is begun
 
 module _ (d : List ℕ) (h : Sound d) {r : Row} (v : List ℕ) {k t : ℕ} (er : r ≡ row_in d) (all : length v ≡ 1024) (ek : k ≡ k_of d) (et : t ≡ t_of d)
-    (m : Memory) (room : Roomy m) where
+    (st ps a b : List ℕ) (m : Roomy (length st) (length ps) (length a) (length b)) where
   abbrev may_begin : Row → ℕ → ℕ → Outcome (Unit {0})
-  may_begin q x y = beginnable q (length v) x y (length m.state.now) (length m.pivots.now) (length m.rows.now) (length m.values.now)
+  may_begin q x y = beginnable q (length v) x y (length st) (length ps) (length a) (length b)
 
   -- nothing refuses it
   begins : may_begin (row_in d) (k_of d) (t_of d) ≡ given tt
@@ -94,27 +94,26 @@ module _ (d : List ℕ) (h : Sound d) {r : Row} (v : List ℕ) {k t : ℕ} (er :
         le-ltb (k_of d) 1 h.row.k-low,
         le-ltb (row_in d).kp (k_of d) h.row.k-high,
         ne_eqb (t_of d) 0 (omega (arith, h.t-low)),
-        le-ltb (length m.rows.now) (l_of (row_in d) * l_of (row_in d)) (omega (arith, rows, room.rows-room)),
-        le-ltb (length m.values.now) (l_of (row_in d) * t_of d) (omega (arith, values, room.values-room)),
-        le-ltb (length m.state.now) 1037 room.state-room,
-        le-ltb (length m.pivots.now) (l_of (row_in d)) (omega (arith, h.row.l-high, room.pivots-room)),
+        le-ltb (length a) (l_of (row_in d) * l_of (row_in d)) (omega (arith, rows, m.rows-room)),
+        le-ltb (length b) (l_of (row_in d) * t_of d) (omega (arith, values, m.values-room)),
+        le-ltb (length st) 1037 m.state-room,
+        le-ltb (length ps) (l_of (row_in d)) (omega (arith, h.row.l-high, m.pivots-room)),
       )
 
-  begin-fine : may_begin r k t ≡ given tt
+  pub begin-fine : beginnable r (length v) k t (length st) (length ps) (length a) (length b) ≡ given tt
   begin-fine = ap (λ (q : Row). may_begin q k t) er ∙ ap₂ (may_begin (row_in d)) ek et ∙ begins
 
-  pub begin-not-refused : {st₁ : List ℕ} (why : Refusal) → Begins r v k t m.state.now m.pivots.now m.rows.now m.values.now st₁ (Err why) → ⊥
+  pub begin-not-refused : {st₁ : List ℕ} (why : Refusal) → Begins r v k t st ps a b st₁ (Err why) → ⊥
   begin-not-refused why u = given-not-refused tt (code_of why) (sym begin-fine ∙ u.0)
 
   -- and nothing was heard
-  pub begin-holds : {st₁ : List ℕ} → v ≡ tables_of d → Begins r v k t m.state.now m.pivots.now m.rows.now m.values.now st₁ (Ok tt)
-      → Holding (stretch_at d 0) st₁ m.pivots.now m.rows.now m.values.now
+  pub begin-holds : {st₁ : List ℕ} → v ≡ tables_of d → Begins r v k t st ps a b st₁ (Ok tt) → Holding (stretch_at d 0) st₁ ps a b
   unfolding esis_in symbols_in
   begin-holds {st₁} ev u =
-      let h1 = subst (λ (q : Row). Holding (fresh q v k t) st₁ m.pivots.now m.rows.now m.values.now) er u.2 in
-      let h2 = subst (λ (q : List ℕ). Holding (fresh (row_in d) q k t) st₁ m.pivots.now m.rows.now m.values.now) ev h1 in
-      let h3 = subst (λ (q : ℕ). Holding (fresh (row_in d) (tables_of d) q t) st₁ m.pivots.now m.rows.now m.values.now) ek h2 in
-      subst (λ (q : ℕ). Holding (fresh (row_in d) (tables_of d) (k_of d) q) st₁ m.pivots.now m.rows.now m.values.now) et h3
+      let h1 = subst (λ (q : Row). Holding (fresh q v k t) st₁ ps a b) er u.2 in
+      let h2 = subst (λ (q : List ℕ). Holding (fresh (row_in d) q k t) st₁ ps a b) ev h1 in
+      let h3 = subst (λ (q : ℕ). Holding (fresh (row_in d) (tables_of d) q t) st₁ ps a b) ek h2 in
+      subst (λ (q : ℕ). Holding (fresh (row_in d) (tables_of d) (k_of d) q) st₁ ps a b) et h3
 
 -- ---- a call on what is held
 
@@ -155,6 +154,15 @@ module _ (z : Stretch) (st ps a d : List ℕ) (h : Holding z st ps a d) where
 
 -- ---- one packet
 
+-- what is taken is its ESI and its symbol
+module _ (p : List ℕ) (i : PayloadId) (q : i ≡ id_at p) (st ps a d st₁ ps₁ a₁ d₁ : List ℕ) (x : Result (Unit {0}) Refusal) where
+  taken_as : 4 ≤ length p → Takes i.encoding_symbol_id (take (length p - 4) (drop 4 p)) st ps a d st₁ ps₁ a₁ d₁ x
+      → Takes (esi_of p) (symbol_of p) st ps a d st₁ ps₁ a₁ d₁ x
+  taken_as m u =
+      let e = take_all (length p - 4) (drop 4 p) (omega (arith, length-drop 4 p)) in
+      let w = subst (λ (s : List ℕ). Takes i.encoding_symbol_id s st ps a d st₁ ps₁ a₁ d₁ x) e u in
+      subst (λ (j : PayloadId). Takes j.encoding_symbol_id (symbol_of p) st ps a d st₁ ps₁ a₁ d₁ x) q w
+
 module _ (p : List ℕ) (m : Memory) (i : PayloadId) (q : i ≡ id_at p) where
   own_is : eqb i.source_block_number 0 ≡ is_own p
   own_is = ap (λ (j : PayloadId). eqb j.source_block_number 0) q
@@ -172,9 +180,7 @@ module _ (p : List ℕ) (m : Memory) (i : PayloadId) (q : i ≡ id_at p) where
         → (true ≡ is_own p) × ((z : Stretch) → length p ≡ z.t + 4 → Held z m → Holding (hearing z p) st₁ ps₁ a₁ d₁)
     own-heard n b l u =
         let e : true ≡ is_own p = sym (eq-eqb i.source_block_number 0 n) ∙ own_is in
-        let s = take_all (length p - 4) (drop 4 p) (omega (arith, length-drop 4 p)) in
-        let by : ℕ → List ℕ → Type 0 = λ f ys. Takes f ys m.state.now m.pivots.now m.rows.now m.values.now st₁ ps₁ a₁ d₁ x in
-        let v = subst (λ (j : PayloadId). by j.encoding_symbol_id (symbol_of p)) q (subst (by i.encoding_symbol_id) s u) in (
+        let v = taken_as p i q m.state.now m.pivots.now m.rows.now m.values.now st₁ ps₁ a₁ d₁ x l u in (
           e,
           λ z y h. subst (λ (c : Bool). Holding (pick c (arrived z (esi_of p) (symbol_of p)) z) st₁ ps₁ a₁ d₁) e
               (packet-held z m.state.now m.pivots.now m.rows.now m.values.now h (esi_of p) (symbol_of p) st₁ ps₁ a₁ d₁ x

@@ -16,12 +16,16 @@ use Rattle.delivery.specs.declared.beneath.receiver.Ready.{Ready}
 
 -- ---- the lent memory
 
--- there is room for every delivery that is taken
-pub record Roomy (m : Memory) : Type 0 where
-  pub state-room : 1037 ≤ length m.state.now
-  pub pivots-room : 300 ≤ length m.pivots.now
-  pub rows-room : 90000 ≤ length m.rows.now
-  pub values-room : 307200 ≤ length m.values.now
+-- so many words, places and octets are room for every delivery that is taken
+pub record Roomy (state pivots rows values : ℕ) : Type 0 where
+  pub state-room : 1037 ≤ state
+  pub pivots-room : 300 ≤ pivots
+  pub rows-room : 90000 ≤ rows
+  pub values-room : 307200 ≤ values
+
+-- and it has them
+abbrev pub RoomyMemory : Memory → Type 0
+RoomyMemory m = Roomy (length m.state.now) (length m.pivots.now) (length m.rows.now) (length m.values.now)
 
 -- it is the memory that it was, and as large
 pub record StaysLent (m m₁ : Memory) : Type 0 where
@@ -33,10 +37,6 @@ pub record StaysLent (m m₁ : Memory) : Type 0 where
   pub pivots-size : length m₁.pivots.now ≡ length m.pivots.now
   pub rows-size : length m₁.rows.now ≡ length m.rows.now
   pub values-size : length m₁.values.now ≡ length m.values.now
-
--- pivots, rows and symbols are as they were
-abbrev pub StoresStay : Memory → Memory → Type 0
-StoresStay m m₁ = (m₁.pivots.now ≡ m.pivots.now) × (m₁.rows.now ≡ m.rows.now) × (m₁.values.now ≡ m.values.now)
 
 -- it holds what came of a stretch
 abbrev pub Held : Stretch → Memory → Type 0
@@ -68,9 +68,9 @@ abbrev pub HearsMore : List ℕ → Memory → Memory → Type 0
 HearsMore p m m₁ = (z : Stretch) → length p ≡ z.t + 4 → Held z m → Held (hearing z p) m₁
 
 -- The first 4,128 bytes of h were read: T and F are told, and nothing was heard yet; or the reason why not, and the state is as it was.
-abbrev pub Opens : List ℕ → Memory → Memory → Result Ready Stop → Type 0
-Opens h m m₁ (Ok r) = (screen h ≡ given tt) × (r.symbol_size ≡ t_of h) × (r.object_size ≡ f_of h) × Held (stretch_at h 0) m₁
-Opens h m m₁ (Err why) = (screen h ≡ refused (stop_of why)) × (m₁.state.now ≡ m.state.now)
+abbrev pub Opens : (h st ps a d st₁ : List ℕ) → Result Ready Stop → Type 0
+Opens h st ps a d st₁ (Ok r) = (screen h ≡ given tt) × (r.symbol_size ≡ t_of h) × (r.object_size ≡ f_of h) × Holding (stretch_at h 0) st₁ ps a d
+Opens h st ps a d st₁ (Err why) = (screen h ≡ refused (stop_of why)) × (st₁ ≡ st)
 
 -- how large they are
 abbrev pub OpenedSmall : Result Ready Stop → Type 0

@@ -9,7 +9,7 @@ use native.Mathlib.Omega.{arith}
 use lib.Bits.{xor_zero_r}
 use lib.ListN.{length, get_or, take, drop}
 use Rattle.field.specs.Octet.{plus, times, inverse}
-use Rattle.field.specs.Runs.{Written, fused}
+use Rattle.field.specs.Runs.{Written, fused, scaled}
 use Rattle.field.proofs.Laws.{one-times, times_zero}
 use Rattle.field.proofs.Parts.{part_length, part_at}
 use Rattle.field.proofs.Writing.{written_as, written_is, written_same}
@@ -57,3 +57,6 @@ onto-symbol t k f a {y} h u =
 pub times_none : {f : ℕ} {d : List ℕ} → Bytes d → f ≡ 1 → Times (inverse f) d d
 times_none {f} {d} b e = written_same _ d (length d)
     (λ c h. sym (ap (λ (z : ℕ). times z (get_or d c 0)) (ap inverse e ∙ inverse-one) ∙ one-times (get_or d c 0) (b c)))
+
+pub times-by : {g x : ℕ} {d d₁ : List ℕ} → x ≡ g → Written (scaled x d) d d₁ 0 (length d) → Times g d d₁
+times-by {g} {x} {d} e w = written_as w (λ c h. ap (λ (z : ℕ). times z (get_or d c 0)) e)

@@ -11,7 +11,7 @@ use lib.ListN.{length, get_or}
 use Rattle.field.specs.Octet.{doubled, copies, times, squares, inverse, over}
 use Rattle.std.specs.Prelude.{Result, Ok, Err}
 use Rattle.std.specs.Result.{result_unwrap_or}
-use Rattle.field.specs.Answer.{code_of, outcome, divided}
+use Rattle.field.specs.Answer.{refused, code_of, outcome, divided}
 use Rattle.field.specs.declared.refusal.Refusal.{Refusal}
 use Rattle.field.proofs.Answers.{given-only, given-not-refused}
 use Rattle.field.specs.Runs.{Apart, Written}
@@ -57,3 +57,11 @@ unwrapped-inverse x q e = go (ℕ_discrete x 0) q e
     go (yes z) (Err why) e = sym (ap inverse z ∙ inverse-zero)
     go (no n) (Ok y) e = given-only y (over 1 x) (rw (ne_eqb x 0 n) at e) ∙ over-one x
     go (no n) (Err why) e = absurd (given-not-refused (over 1 x) (code_of why) (sym (rw (ne_eqb x 0 n) at e)))
+
+-- where it is refused, whatever the number
+pub refused-inverse : (x : ℕ) {n : ℕ} → refused n ≡ divided 1 x → 0 ≡ inverse x
+refused-inverse x {n} e = go (ℕ_discrete x 0)
+  where
+    go : Dec (x ≡ 0) → 0 ≡ inverse x
+    go (yes z) = sym (ap inverse z ∙ inverse-zero)
+    go (no m) = absurd (given-not-refused (over 1 x) n (sym (rw (ne_eqb x 0 m) at e)))

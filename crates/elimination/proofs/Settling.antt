@@ -1,6 +1,6 @@
 -- Symbols that meet as many held equations as there are columns are the single set that fits what the stores hold.
 -- Assumes nothing.
-use mathlib.Core.Path.{◌≡◌, ap, ◌∙◌}
+use mathlib.Core.Path.{◌≡◌, refl, ap, ◌∙◌}
 use mathlib.Core.List.{List}
 use Prim.Native.Nat.{ℕ, ◌+◌, ◌-◌, ◌*◌, ◌≤◌, ◌<◌}
 use native.Mathlib.Omega.{arith}
@@ -11,6 +11,7 @@ use Rattle.linear.specs.Back.{Brought, MetFrom}
 use Rattle.linear.specs.Rows.{RowAdded, OnlyBelow}
 use Rattle.linear.specs.Elimination.{Stepped}
 use Rattle.linear.proofs.Back.{brought-past, brought-row, met-fits}
+use Rattle.linear.proofs.Rows.{only-refl}
 use Rattle.linear.proofs.Finish.{stepped-solved, front-block, front_fits}
 use Rattle.elimination.specs.Steps.{column}
 use Rattle.elimination.specs.Settling.{Settles}
@@ -36,3 +37,7 @@ settles {L} {T} ps a d o o₁ full bo long past met = record {
   solved = λ h pos s S small holds.
       stepped-solved s holds _ small pos h (front-block L T o₁ bo (omega (arith, past.size))) (front_fits o₁ (met-fits (met s)));
 }
+
+-- nothing is done
+pub settles-none : {L T r : ℕ} (ps a d o : List ℕ) → r < L → Settles L T r ps a d o o
+settles-none ps a d o h = record { past = only-refl; short = λ _. refl; solved = λ l. absurd (omega arith) }

@@ -33,6 +33,15 @@ use Rattle.elimination.specs.Reducing.{UnitRow, ColumnCleared, Reduces}
 pub entry_in : {L T q c j : ℕ} {a d : List ℕ} → StoresRoom (q + 1) L T a d → c < L → j < q → j * L + c < length a
 entry_in {L} {q = q} {j = j} s hc hj = omega (arith, s.rows, digits_lt {q = j} {m = q + 1} {r = _} (omega arith) hc)
 
+-- it is 0 already: nothing is to be done
+pub zero-there : (xs : List ℕ) (x : ℕ) → get_or xs x 0 ≡ 0 → Written (λ _. 0) xs xs x 1
+zero-there xs x e = record {
+  size = refl;
+  part = λ k h. (let i : x + k ≡ x = omega arith in ap (λ (j : ℕ). get_or xs j 0) i ∙ e);
+  low = λ k h. refl;
+  high = λ k h. refl;
+}
+
 -- 0 times a row is nothing
 pub added_none : (w i k f : ℕ) (xs : List ℕ) → f ≡ 0 → RowAdded w i k f xs xs
 added_none w i k f xs e = record {
@@ -118,6 +127,9 @@ cleared_more {L} {T} {n} {q} {c} {a} {d} {a₁} {d₁} {a₂} {d₂} hn hc u wa 
     gone' : (j : ℕ) → j < n + 1 → Dec (j ≡ n) → cell L a₂ j c ≡ 0
     gone' j h (yes e) = ap (λ (z : ℕ). cell L a₂ z c) e ∙ own n hc wa
     gone' j h (no m) = other n hc wa j c hc (λ e. absurd (m e)) ∙ u.gone j (omega arith)
+
+pub cleared-is : {L T n q c : ℕ} {a d a₁ d₁ : List ℕ} → n ≡ q → ColumnCleared L T n q c a d a₁ d₁ → ColumnCleared L T q q c a d a₁ d₁
+cleared-is e u = rw e at u
 
 -- ---- when its turn comes a row is a unit row
 

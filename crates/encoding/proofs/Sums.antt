@@ -42,6 +42,16 @@ visited l g ps h b =
     ∙ sum-swap (length ps) l (λ k c. times (unit c (get_or ps k 0)) (g c))
     ∙ sum_same l (λ c q. sym (sum-times-left (length ps) (g c) (λ k. unit c (get_or ps k 0))))
 
+-- ---- adding a symbol
+
+pub symbol-added : (t p : ℕ) (d C ys : List ℕ) → p * t + t ≤ length C
+    → Written (added d 0 (take (p * t + t - p * t) (drop (p * t) C))) d ys 0 (length (take (p * t + t - p * t) (drop (p * t) C)))
+    → Written (symbol_added t d C p) d ys 0 t
+symbol-added t p d C ys h u =
+    let v : Written (added d 0 (take t (drop (p * t) C))) d ys 0 (length (take t (drop (p * t) C))) = rw (part-is C (p * t) t) at u in
+    written_as (written_is v (part_length C (p * t) t h))
+    (λ k q. ap₂ plus (ap (λ (i : ℕ). get_or d i 0) (zero-add k)) (part_at C (p * t) t k q))
+
 -- ---- adding one after another
 
 pub none-added : (t : ℕ) (d C ps : List ℕ) → Written (symbols_added t d C ps 0) d d 0 t
@@ -69,6 +79,10 @@ one-added t d C ps ys zs i w u =
       low = λ k h. u.low k h ∙ w.low k h;
       high = λ k h. u.high k h ∙ w.high k h;
     }
+
+pub enough-added : (t : ℕ) (d C ps : List ℕ) {ys : List ℕ} {i n : ℕ} → Written (symbols_added t d C ps i) d ys 0 t → i ≡ n
+    → Written (symbols_added t d C ps n) d ys 0 t
+enough-added t d C ps {ys} w e = subst (λ (j : ℕ). Written (symbols_added t d C ps j) d ys 0 t) e w
 
 -- ---- the whole walk
 

@@ -24,25 +24,37 @@ use Rattle.builders.specs.Built.{Builds}
 use Rattle.builders.proofs.Settled.{builds-only}
 use Rattle.encoding.specs.Encoded.{Encodes}
 use Rattle.encoding.proofs.Settled.{encodes-only}
-use Rattle.exports.specs.Call.{Reports, code}
+use Rattle.exports.specs.Call.{Reports, ReportsBy, code}
 use Rattle.headers.specs.declared.row.Row.{Row}
 use Rattle.exports.specs.Numbers.{id, info, row, slab, tuple}
 use Rattle.exports.specs.Stores.{RunAdded, RunFused, RunScaled, TellsZero, countable, same_length}
 use Rattle.exports.proofs.Calls.{zero-told-once}
 
-module _ {A : Type 0} {C : Result A Refusal → List ℕ → Type 0} where
-  -- what the layer below settles
-  pub reports-once : Settled C → Settled (Reports C)
-  reports-once once q r ys zs u w =
+module _ {R A : Type 0} (of : R → Outcome A) {C : R → List ℕ → Type 0} where
+  -- what the layer below settles, whatever it answers
+  pub reports-once-by : Settled C → Settled (ReportsBy of C)
+  reports-once-by once q r ys zs u w =
       let e = once u.below w.below ys zs u.meets w.meets in
-      (u.result ∙ ap (λ (a : Result A Refusal). code (outcome a)) e.0 ∙ sym w.result, e.1)
+      (u.result ∙ ap (λ (a : R). code (of a)) e.0 ∙ sym w.result, e.1)
 
   -- and that the number is the outcome's: 0, and memory as P says, or the refusal's, and memory as it was
-  pub reports-outcome : (o : Outcome A) (xs : List ℕ) (P : List ℕ → Type 0) {ys : List ℕ} {r : ℕ}
-      → ((a : Result A Refusal) → C a ys → Does o xs P a ys) → Reports C r ys → (r ≡ code o) × Left o xs ys (P ys)
-  reports-outcome o xs P {ys} means u =
+  pub reports-outcome-by : (o : Outcome A) (xs : List ℕ) (P : List ℕ → Type 0) {ys : List ℕ} {r : ℕ}
+      → ((a : R) → C a ys → (of a ≡ o) × Left (of a) xs ys (P ys)) → ReportsBy of C r ys → (r ≡ code o) × Left o xs ys (P ys)
+  reports-outcome-by o xs P {ys} means u =
       let d = means u.below u.meets in
       (u.result ∙ ap code d.0, subst (λ (p : Outcome A). Left p xs ys (P ys)) d.0 d.1)
+
+module _ {A : Type 0} {C : Result A Refusal → List ℕ → Type 0} where
+  by : {r : ℕ} {ys : List ℕ} → Reports C r ys → ReportsBy outcome C r ys
+  by u = record { below = u.below; meets = u.meets; result = u.result }
+
+  -- the same of an answer that `outcome` reads
+  pub reports-once : Settled C → Settled (Reports C)
+  reports-once once q r ys zs u w = reports-once-by outcome once q r ys zs (by u) (by w)
+
+  pub reports-outcome : (o : Outcome A) (xs : List ℕ) (P : List ℕ → Type 0) {ys : List ℕ} {r : ℕ}
+      → ((a : Result A Refusal) → C a ys → Does o xs P a ys) → Reports C r ys → (r ≡ code o) × Left o xs ys (P ys)
+  reports-outcome o xs P means u = reports-outcome-by outcome o xs P means (by u)
 
 -- ---- runs
 

@@ -10,7 +10,7 @@ use borrow.Author.Tests.{lt-ltb, le-ltb, lt-leb, ltb-false, eqb-false}
 use lib.Dec.{eqb, leb, ltb}
 use lib.ListN.{length}
 use Rattle.std.specs.Prelude.{Result, Ok, Err}
-use Rattle.field.specs.Answer.{Outcome, given, refused, unless, before, outcome}
+use Rattle.field.specs.Answer.{Outcome, given, refused, unless, before, outcome, code_of}
 use Rattle.field.specs.Choice.{pick}
 use Rattle.field.specs.declared.refusal.Refusal.{Refusal}
 use Rattle.field.proofs.Answers.{given-not-refused}
@@ -135,6 +135,10 @@ pub called-place : (k t : ℕ) (es : List ℕ) (came built i : ℕ) {out now : L
     → Called (then_roomed out (listed place_numbers o)) out now n → r ≡ n → Called (displayed k t es came built i out) out now r
 called-place k t es came built i {out} o e q w z = rw (display-room k t es came built i out, ← e, ← q, z) w
 
+-- v is told as w is
+pub told-as : (v w : Verdict) {f g : List ℕ} → v ≡ w → Kept (given (lacking w)) f g → (verdict_code w ≡ verdict_code v) × Kept (given (lacking v)) f g
+told-as v w {f} {g} e h = (ap verdict_code (sym e), subst (λ (x : Verdict). Kept (given (lacking x)) f g) (sym e) h)
+
 module _ (r : Row) (v : List ℕ) (k t : ℕ) (es xs a d o : List ℕ) where
   never : (p : Outcome (Unit {0})) → and_room p 0 1 ≡ given tt → ⊥
   never (given u) e = given-not-refused tt 8 (sym e)
@@ -144,14 +148,30 @@ module _ (r : Row) (v : List ℕ) (k t : ℕ) (es xs a d o : List ℕ) where
   without : and_room (admitted r v k t es xs a d o) 0 1 ≡ admitted r v k t es xs [] d o
   without = no_rows r (length v) k t (length es) (any_large es) (length xs) (length a) (length d) (length o)
 
+  pub rows-wanted : (a₁ d₁ o₁ : List ℕ) (y : Result Verdict Refusal) (x : Verdict) → Solves r v k t es xs [] d o a₁ d₁ o₁ y → y ≡ Ok x → ⊥
+  rows-wanted a₁ d₁ o₁ y x h e = never (admitted r v k t es xs a d o) (without ∙ (subst (Solves r v k t es xs [] d o a₁ d₁ o₁) e h).0)
+
+  pub rows-refused : (a₁ d₁ o₁ : List ℕ) {n : ℕ} (y : Result Verdict Refusal) (w : Refusal) → Solves r v k t es xs [] d o a₁ d₁ o₁ y → y ≡ Err w
+      → n ≡ code_of w → (n ≡ code (taken r v k t es xs a d o [])) × ((a₁ ++ a ≡ a) × (d₁ ≡ d) × (o₁ ≡ o))
+  rows-refused a₁ d₁ o₁ {n} y w h e q =
+      let u = subst (Solves r v k t es xs [] d o a₁ d₁ o₁) e h in
+      (q ∙ ap code (sym (without ∙ u.0)), (ap (λ (l : List ℕ). l ++ a) u.1, u.2, u.3))
+
   module _ (f a₁ d₁ o₁ : List ℕ) {n : ℕ} where
     -- a call without room for the shortfall
-    unroomed : length f < 1 → n ≡ code (taken r v k t es xs a d o []) → (a₁ ≡ a) × (d₁ ≡ d) × (o₁ ≡ o) → Solving r v k t es xs a d o f a₁ d₁ o₁ f n
+    pub unroomed : length f < 1 → n ≡ code (taken r v k t es xs a d o []) → (a₁ ≡ a) × (d₁ ≡ d) × (o₁ ≡ o) → Solving r v k t es xs a d o f a₁ d₁ o₁ f n
     unroomed h q u = go (admitted r v k t es xs a d o) q
       where
         go : (p : Outcome (Unit {0})) → n ≡ code (and_room p 0 1) → SolvingBy (and_room p (length f) 1) r v k t es xs a d o f a₁ d₁ o₁ f n
         go (given x) e = rw (lt-ltb (length f) 1 h) (e, u.0, u.1, u.2, refl)
         go (refused m) e = (e, u.0, u.1, u.2, refl)
+
+    -- a call that was refused, with room or without
+    pub told-refused : (y : Result Verdict Refusal) (w : Refusal) → Solves r v k t es xs a d o a₁ d₁ o₁ y → y ≡ Err w → n ≡ code_of w
+        → Solving r v k t es xs a d o f a₁ d₁ o₁ f n
+    told-refused y w h e q =
+        let u = subst (Solves r v k t es xs a d o a₁ d₁ o₁) e h in
+        subst (λ (p : Outcome (Unit {0})). SolvingBy (and_room p (length f) 1) r v k t es xs a d o f a₁ d₁ o₁ f n) (sym u.0) (q, u.1, u.2, u.3, refl)
 
     -- a call with room
     pub told-solved : (f₁ : List ℕ) (y : Result Verdict Refusal) → 1 ≤ length f → Solves r v k t es xs a d o a₁ d₁ o₁ y
@@ -164,6 +184,5 @@ module _ (r : Row) (v : List ℕ) (k t : ℕ) (es xs a d o : List ℕ) where
 
   pub told-unroomed : (f a₁ d₁ o₁ : List ℕ) {n : ℕ} (y : Result Verdict Refusal) → length f < 1 → Solves r v k t es xs [] d o a₁ d₁ o₁ y
       → n ≡ code (outcome y) → Solving r v k t es xs a d o f (a₁ ++ a) d₁ o₁ f n
-  told-unroomed f a₁ d₁ o₁ (Ok x) h u q = absurd (never (admitted r v k t es xs a d o) (without ∙ u.0))
-  told-unroomed f a₁ d₁ o₁ (Err w) h u q =
-      unroomed f (a₁ ++ a) d₁ o₁ h (q ∙ ap code (sym (without ∙ u.0))) (ap (λ (l : List ℕ). l ++ a) u.1, u.2, u.3)
+  told-unroomed f a₁ d₁ o₁ (Ok x) h u q = absurd (rows-wanted a₁ d₁ o₁ (Ok x) x u refl)
+  told-unroomed f a₁ d₁ o₁ (Err w) h u q = let k = rows-refused a₁ d₁ o₁ (Err w) w u refl q in unroomed f (a₁ ++ a) d₁ o₁ h k.0 k.1

@@ -48,6 +48,12 @@ pub record Reports {A : Type 0} (C : Result A Refusal → List ℕ → Type 0) (
   pub meets : C below ys
   pub result : r ≡ code (outcome below)
 
+-- The same of an answer of any type, which `of` reads.
+pub record ReportsBy {R A : Type 0} (of : R → Outcome A) (C : R → List ℕ → Type 0) (r : ℕ) (ys : List ℕ) : Type 0 where
+  pub below : R
+  pub meets : C below ys
+  pub result : r ≡ code (of below)
+
 -- what is told of a list besides: how many places were written
 abbrev pub many : List ℕ → List ℕ
 many l = single (length l)

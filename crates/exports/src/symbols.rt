@@ -9,11 +9,10 @@ ghost use Rattle.exports.specs.Stores.{TellsZero, countable};
 use crate::values::{Numbers, hand, room, told};
 use field::refusal::Refusal;
 use slabs::symbol_slab;
-use slabs::symbol_slab::SymbolSlab;
-use std::ops::Range;
+use slabs::symbol_slab::{Range, SymbolSlab};
 
 // Where it begins and ends.
-impl Numbers<2> for Range<usize> {
+impl Numbers<2> for Range {
     ghost numbers = { λ r. bounds (r.start, r.end) };
 
     fn numbers(self) -> [u64; 2] {

@@ -6,7 +6,7 @@ use mathlib.Core.List.{List}
 use Prim.Native.Nat.{ℕ}
 use Rattle.std.specs.Prelude.{Result, Ok, Err, IsErrAnd}
 use Rattle.std.proofs.lemmas.Result.{err_from_is_err_and}
-use Rattle.field.specs.Answer.{Outcome, given, refused, unless, before, Left, Does, Tells, outcome, code_of}
+use Rattle.field.specs.Answer.{Outcome, given, refused, unless, before, Left, Does, DoesBy, Tells, TellsBy, outcome, code_of}
 use Rattle.field.specs.Runs.{Written, all_zero}
 use Rattle.field.specs.declared.refusal.Refusal.{Refusal}
 use Rattle.field.proofs.Answers.{given-not-refused, outcome-only}
@@ -53,25 +53,37 @@ left-once P (refused n) xs ys zs once h k = h ∙ sym k
 abbrev pub Settled : {R : Type 0} → (R → List ℕ → Type 0) → Type 0
 Settled {R} C = (a b : R) (ys zs : List ℕ) → C a ys → C b zs → (a ≡ b) × (ys ≡ zs)
 
-module _ {A : Type 0} (o : Outcome A) (xs : List ℕ) where
-  pub settled : (P : List ℕ → Type 0) → ((ys zs : List ℕ) → P ys → P zs → ys ≡ zs) → Settled (Does o xs P)
-  settled P once a b ys zs h k = (
-    outcome-only a b (h.0 ∙ sym k.0),
-    left-once P (outcome a) xs ys zs (once ys zs) h.1 (subst (λ (r : Outcome A). Left r xs zs (P zs)) (k.0 ∙ sym h.0) k.1),
+-- of an answer of any type that is settled by what `of` reads of it
+module _ {R A : Type 0} (of : R → Outcome A) (only : (a b : R) → of a ≡ of b → a ≡ b) (o : Outcome A) (xs : List ℕ) where
+  pub settled-by : (P : List ℕ → Type 0) → ((ys zs : List ℕ) → P ys → P zs → ys ≡ zs) → Settled (DoesBy of o xs P)
+  settled-by P once a b ys zs h k = (
+    only a b (h.0 ∙ sym k.0),
+    left-once P (of a) xs ys zs (once ys zs) h.1 (subst (λ (r : Outcome A). Left r xs zs (P zs)) (k.0 ∙ sym h.0) k.1),
   )
 
   -- of a call that writes f to the n places from `at` on
-  pub settled-written : (f : ℕ → ℕ) (at n : ℕ) → Settled (Does o xs (λ ys. Written f xs ys at n))
-  settled-written f at n = settled (λ ys. Written f xs ys at n) (λ ys zs u v. written_once u v)
+  pub settled-written-by : (f : ℕ → ℕ) (at n : ℕ) → Settled (DoesBy of o xs (λ ys. Written f xs ys at n))
+  settled-written-by f at n = settled-by (λ ys. Written f xs ys at n) (λ ys zs u v. written_once u v)
 
 -- of a call that writes f to them and tells whether they are all 0 now: what it tells of the bytes is so of f
-module _ (xs : List ℕ) (f : ℕ → ℕ) (at n : ℕ) where
-  by-rule : (o : Outcome (Unit {0})) (r : Result Bool Refusal) (ys : List ℕ) → Tells o xs f at n r ys → outcome r ≡ before o (given (all_zero f n))
+module _ {R : Type 0} (of : R → Outcome Bool) (xs : List ℕ) (f : ℕ → ℕ) (at n : ℕ) where
+  by-rule : (o : Outcome (Unit {0})) (r : R) (ys : List ℕ) → TellsBy of o xs f at n r ys → of r ≡ before o (given (all_zero f n))
   by-rule (given _) r ys u =
       let w = subst (λ (p : Outcome Bool). Left p xs ys (Written f xs ys at n)) u.0 u.1 in
       u.0 ∙ ap given (sym (zero-written w))
   by-rule (refused k) r ys u = u.0
 
-  pub settled-told : (o : Outcome (Unit {0})) → Settled (Tells o xs f at n)
-  settled-told o a b ys zs u v =
-      settled-written (before o (given (all_zero f n))) xs f at n a b ys zs (by-rule o a ys u, u.1) (by-rule o b zs v, v.1)
+  pub settled-told-by : ((a b : R) → of a ≡ of b → a ≡ b) → (o : Outcome (Unit {0})) → Settled (TellsBy of o xs f at n)
+  settled-told-by only o a b ys zs u v =
+      settled-written-by of only (before o (given (all_zero f n))) xs f at n a b ys zs (by-rule o a ys u, u.1) (by-rule o b zs v, v.1)
+
+-- the three of the answers that calls give
+module _ {A : Type 0} (o : Outcome A) (xs : List ℕ) where
+  pub settled : (P : List ℕ → Type 0) → ((ys zs : List ℕ) → P ys → P zs → ys ≡ zs) → Settled (Does o xs P)
+  settled = settled-by outcome outcome-only o xs
+
+  pub settled-written : (f : ℕ → ℕ) (at n : ℕ) → Settled (Does o xs (λ ys. Written f xs ys at n))
+  settled-written = settled-written-by outcome outcome-only o xs
+
+pub settled-told : (xs : List ℕ) (f : ℕ → ℕ) (at n : ℕ) (o : Outcome (Unit {0})) → Settled (Tells o xs f at n)
+settled-told xs f at n = settled-told-by outcome xs f at n outcome-only

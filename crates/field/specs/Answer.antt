@@ -101,6 +101,13 @@ Does o xs P r ys = (outcome r ≡ o) × Left (outcome r) xs ys (P ys)
 abbrev pub Tells : Outcome (Unit {0}) → List ℕ → (ℕ → ℕ) → (at n : ℕ) → Result Bool Refusal → List ℕ → Type 0
 Tells o xs f at n r ys = Does (before o (given (zero_from ys at n))) xs (λ zs. Written f xs zs at n) r ys
 
+-- the same of an answer of any type R, which `of` reads
+abbrev pub DoesBy : {R A : Type 0} → (R → Outcome A) → Outcome A → List ℕ → (List ℕ → Type 0) → R → List ℕ → Type 0
+DoesBy of o xs P r ys = (of r ≡ o) × Left (of r) xs ys (P ys)
+
+abbrev pub TellsBy : {R : Type 0} → (R → Outcome Bool) → Outcome (Unit {0}) → List ℕ → (ℕ → ℕ) → (at n : ℕ) → R → List ℕ → Type 0
+TellsBy of o xs f at n r ys = DoesBy of (before o (given (zero_from ys at n))) xs (λ zs. Written f xs zs at n) r ys
+
 -- what a division answers
 abbrev pub divided : ℕ → ℕ → Outcome ℕ
 divided a b = unless (eqb b 0) 1 (given (over a b))

@@ -1,7 +1,8 @@
 // Reads 16 bytes on standard input, twelve of transmission information and four of a payload id, and prints what they say.
 #![tactic(auto)]
 
-use header_text::{beneath, input};
+use header_text::beneath;
+use header_text::beneath::input;
 
 // What cannot be written is left out.
 fn main(rt: HostRuntime) {

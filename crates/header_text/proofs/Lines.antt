@@ -1,15 +1,19 @@
 -- Lines follow each other, and the digits of std are those of the definition.
 -- Assumes nothing.
-use Rattle.std.proofs.Common.{◌≡◌, ℕ, ◌+◌, ◌^◌, ◌<◌, ◌≤◌, List, [], ◌∷◌, ◌++◌, length, take, drop, sym, refl, ap, ◌∙◌, subst, arith, append_assoc, length-append, length-take-le, length-drop, lt-ltb, le-ltb, eq-eqb}
-use native.Mathlib.Decide.{ℕ_discrete}
+use Rattle.std.proofs.Common.{◌≡◌, ℕ, ◌+◌, ◌^◌, ◌<◌, ◌≤◌, min, List, [], ◌∷◌, ◌++◌, length, take, drop, sym, refl, ap, ap₂, ◌∙◌, subst, arith, append_assoc, length-append, length-take-le, length-drop, lt-ltb, le-ltb, eq-eqb}
+use native.Mathlib.Decide.{dec_lt, ℕ_discrete}
 use borrow.Author.Tests.{ne_eqb}
-use lib.ListN.{length-take}
+use lib.ListN.{length-take, drop_of_length-le}
+use lib.Seq.{take_all}
 use Rattle.std.specs.Fmt.{decimal}
 use Rattle.std.proofs.lemmas.Fmt.{AppendsLastDigit, decimal_from_appends, length-decimal-le}
+use Rattle.field.specs.Answer.{Outcome}
 use Rattle.headers.specs.Bytes.{Laid}
+use Rattle.headers.specs.Headers.{read_id, read_info}
+use Rattle.headers.specs.declared.transmission.ObjectTransmissionInformation.{ObjectTransmissionInformation}
 use Rattle.headers.proofs.Bytes.{laid-append}
 use Rattle.header_text.specs.Counts.{IsPrefixLen}
-use Rattle.header_text.specs.Text.{Lined, line, spelled, refused_line, text_of}
+use Rattle.header_text.specs.Text.{Lined, line, spelled, refused_line, told, text_of}
 
 module _ (bs cs : List ℕ) {m n : ℕ} {xs ys zs : List ℕ} {at to next : ℕ} where
   pub lined-append : Lined bs m xs ys at to → Lined cs n ys zs to next → Lined (bs ++ cs) (m + n) xs zs at next
@@ -72,6 +76,25 @@ pub lined-counts : {bs : List ℕ} {m : ℕ} {xs ys : List ℕ} {to : ℕ} → L
 lined-counts {bs} {m} {xs} {ys} {to} u h =
     let l : to ≤ length ys = omega (arith, u.ends, u.short, u.laid.size) in
     (l, sym (length-take-le to ys l))
+
+-- where the input is cut does not matter, if it is after the twelfth byte or at the end
+pub cut : (s : List ℕ) (n : ℕ) → n ≡ min (length s) 12 → (take n s ≡ take 12 s) × (drop n s ≡ drop 12 s)
+cut s n e = go (dec_lt (length s) 12)
+  where
+    go : Dec (length s < 12) → (take n s ≡ take 12 s) × (drop n s ≡ drop 12 s)
+    go (yes l) = (
+      take_all n s (omega arith) ∙ sym (take_all 12 s (omega arith)),
+      drop_of_length-le s {i = n} (omega arith) ∙ sym (drop_of_length-le s {i = 12} (omega arith)),
+    )
+    go (no l) =
+        let m : n ≡ 12 = omega arith in
+        (ap (λ (k : ℕ). take k s) m, ap (λ (k : ℕ). drop k s) m)
+
+-- so the text is that of the two parts
+pub text-is : (s rest : List ℕ) (n : ℕ) (o : Outcome ObjectTransmissionInformation) → n ≡ min (length s) 12 → o ≡ read_info (take n s) → rest ≡ drop n s
+    → told o (read_id rest) ≡ text_of s
+text-is s rest n o e q r =
+    ap₂ (λ (x : Outcome ObjectTransmissionInformation) (y : List ℕ). told x (read_id y)) (q ∙ ap read_info (cut s n e).0) (r ∙ (cut s n e).1)
 
 -- document 01: any other input length prints only `refused 8`
 pub text-refused : (s : List ℕ) → (length s ≡ 16 → ⊥) → text_of s ≡ refused_line 8

@@ -12,6 +12,8 @@ use headers::transmission::ObjectTransmissionInformation;
 use headers::{payload_id, transmission};
 use itoa::Buffer;
 
+pub mod input;
+
 pub fn text(input: &[u8], out: &mut [u8]) -> usize
     requires { 200 ≤ length out.old }
     ensures lined { Lined (text_of input.now) 200 out.old out.new 0 result }

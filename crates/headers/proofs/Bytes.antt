@@ -1,6 +1,6 @@
 -- Numbers in bytes: how many, how large, which byte stands where, and that neither way loses anything. Bytes laid into a store.
 -- Assumes nothing.
-use Rattle.std.proofs.Common.{◌≡◌, ℕ, zero, suc, ◌+◌, ◌-◌, ◌*◌, ◌/◌, ◌%◌, ◌^◌, ◌<◌, ◌≤◌, List, [], ◌∷◌, ◌++◌, length, get_or, take, drop, sym, refl, ap, ◌∙◌, subst, ap₂, zero-add, div-one, add-one, arith, length-append, length-drop, length-take-le, get_or-drop, get_or-take, take-suc, drop-drop, get_or-append-add, ext_get_or, take-add, pow-add, shr-shr}
+use Rattle.std.proofs.Common.{◌≡◌, ℕ, zero, suc, ◌+◌, ◌-◌, ◌*◌, ◌/◌, ◌%◌, ◌^◌, ◌<◌, ◌≤◌, List, [], ◌∷◌, ◌++◌, length, get_or, take, drop, sym, refl, ap, ◌∙◌, subst, ap₂, zero-add, div-one, add-one, arith, length-append, length-drop, length-take-le, get_or-drop, get_or-take, take-suc, drop-drop, get_or-append-add, ext_get_or, take-add, pow_mono, pow-add, shr-shr}
 use native.Mathlib.Decide.{dec_lt}
 use lib.Arith.{digits_div, digits_mod}
 use lib.ListN.{get_or-append}
@@ -35,6 +35,10 @@ pub number-lt-more : (i x b : ℕ) → x < 2 ^ (8 * i) → b < 256 → x * 256 +
 number-lt-more i x b h l =
     let e : 8 * (i + 1) ≡ 8 * i + 8 = omega arith in
     omega (arith, ap (λ (k : ℕ). 2 ^ k) e ∙ pow-add 2 (8 * i) 8)
+
+-- room for one byte more in 64 bits
+pub number-lt-56 : (i x : ℕ) → x < 2 ^ (8 * i) → i < 8 → x < 2 ^ 56
+number-lt-56 i x h l = let m : 8 * i ≤ 56 = omega arith in omega (arith, pow_mono m)
 
 -- one run laid after another
 module _ (ws bs : List ℕ) {xs ys zs : List ℕ} {at next : ℕ} where

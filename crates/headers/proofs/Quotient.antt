@@ -19,6 +19,10 @@ module _ (a b : ℕ) (h : 0 < b) where
       let m : a + (b - 1) ≡ (a / b + 1) * b + (a % b - 1) = omega (arith, div-add-mod' a b, add-mul (a / b) 1 b, one-mul b) in
       sym (ap (λ (x : ℕ). x / b) m ∙ digits_div (a / b + 1) (omega (arith, mod-lt a h)))
 
+  -- which leaves room for one more
+  pub quotient-lt : (a % b ≡ 0 → ⊥) → a / b < a
+  quotient-lt d = omega (arith, div-add-mod' a b, le-mul_of_pos_right (a / b) h)
+
   -- the definition is the smallest n with a at most n times b: large enough, and no smaller does
   pub ceil-least : (n : ℕ) → a ≤ n * b → ceil a b ≤ n
   unfolding ceil

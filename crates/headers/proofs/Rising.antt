@@ -17,6 +17,14 @@ pub mono : (i j : ℕ) → i ≤ j → j ≤ 30 → f i ≤ f j
 mono i j h = le_ind (λ (m : ℕ). m ≤ 30 → f i ≤ f m) (λ _. le_refl (f i))
     (λ m k e l. le_trans (e (omega arith)) (le_of_lt (rises m (omega arith)))) j h
 
+-- a threshold up to v, where v is below the last, is not the last
+pub not_last : {d v : ℕ} → d ≤ 30 → get_or thresholds d 0 ≤ v → v < 1048576 → d < 30
+not_last {d} {v} h l u = go (dec_lt d 30)
+  where
+    go : Dec (d < 30) → d < 30
+    go (yes a) = a
+    go (no a) = let e : d ≡ 30 = omega arith in absurd (let m : 1048576 ≤ v = subst (λ (n : ℕ). get_or thresholds n 0 ≤ v) e l in omega arith)
+
 apart : {v d e : ℕ} → IntervalOf v d → IntervalOf v e → d < e → ⊥
 apart {v} {d} {e} p q h = omega (arith, mono d (e - 1) (omega arith) (omega arith), p.to, q.from)
 

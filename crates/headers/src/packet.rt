@@ -33,7 +33,10 @@ pub fn read_head(bytes: &[u8]) -> Result<(PayloadId, Cursor), Refusal>
 pub fn deserialize(bytes: &[u8]) -> Result<Packet, Refusal>
     ensures { packet_outcome result ≡ read_packet bytes.now }
 {
-    let (payload_id, cursor) = read_head(bytes)?;
+    let head = read_head(bytes);
+    let Ok((payload_id, cursor)) = head else {
+        return Err(head.unwrap_err());
+    };
     let from = cursor.at;
     let len = bytes.len() - from;
     Ok(Packet {

@@ -4,7 +4,8 @@
 
 ghost use Rattle.header_text.specs.Counts.{IsPrefixLen};
 
-use header_text::{beneath, input};
+use header_text::beneath;
+use header_text::beneath::input;
 use headers::beneath::tuple;
 use headers::partition::Parts;
 use headers::{deg, partition};
@@ -63,11 +64,11 @@ fn read_file(rt: &HostRuntime, name: &str, store: &mut [u8]) -> usize
 }
 
 fn header(rt: &HostRuntime, name: &str) {
+    let _ = println!(rt; "{name}");
     let mut bytes = [0u8; 4096];
     let n = read_file(rt, name, &mut bytes);
     let mut out = [0u8; 4096];
     let len = beneath::text(&bytes[..n], &mut out);
-    let _ = println!(rt; "{name}");
     let _ = rt.write_all(&out[..len]);
 }
 

@@ -6,7 +6,7 @@
 ghost use Rattle.std.specs.Prelude.{◌<◌, ◌≤◌, length};
 
 use field::refusal::Refusal;
-use header_text::input;
+use header_text::beneath::input;
 use headers::ids::{Esi, Isi};
 use headers::row::Row;
 use headers::transmission::ObjectTransmissionInformation;
@@ -135,7 +135,9 @@ fn read_question(kind: u8, text: &[u8]) -> (Question, &[u8])
 }
 
 // The tables at the front of the text, and the text after them.
-fn read_tables<'a>(text: &'a [u8], tables: &mut [u32]) -> &'a [u8] {
+fn read_tables<'a>(text: &'a [u8], tables: &mut [u32]) -> &'a [u8]
+    ensures { length result.now ≤ length text.now }
+{
     let mut rest = text;
     for entry in tables.iter_mut() {
         let (x, more) = number(rest);

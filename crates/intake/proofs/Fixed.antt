@@ -79,6 +79,9 @@ all-blank (suc n) = ap (λ (b : Bool). and_then b (eqb 0 0)) (all-blank n)
 pub cleared : {xs ys : List ℕ} {n : ℕ} → Written (λ _. 0) xs ys 0 n → true ≡ zero_from ys 0 n
 cleared {n = n} w = sym (all-blank n) ∙ zero-written w
 
+pub cleared_at : {xs ys : List ℕ} {n : ℕ} → Written (λ _. 0) xs ys 0 n → (b : ℕ) → b < n → get_or ys b 0 ≡ 0
+cleared_at w b h = from_zero w b h
+
 -- a choice between nothing and nothing
 blank : (n : ℕ) (f g : ℕ → ℕ → ℕ) → ((i b : ℕ) → f i b ≡ 0) → ((i b : ℕ) → g i b ≡ 0) → (i b : ℕ) → ahead n f g i b ≡ 0
 blank n f g p q i b = go (dec_lt i n)

@@ -3,6 +3,7 @@ pub mod Systems
 pub mod Fixed
 pub mod Steps
 pub mod Stretches
+pub mod Looking
 pub mod Refusing
 pub mod Packets
 pub mod Answering

@@ -11,10 +11,11 @@ use Rattle.headers.specs.Row.{Obeys, l_of}
 use Rattle.headers.specs.declared.row.Row.{Row}
 use Rattle.linear.specs.System.{System}
 use Rattle.elimination.specs.Steps.{StoresRoom, Pivots}
-use Rattle.std.specs.Prelude.{Option}
+use Rattle.elimination.specs.Taking.{Wide}
+use Rattle.std.specs.Prelude.{Option, Some, None}
 use Rattle.solver.specs.System.{sent_row}
-use Rattle.intake.specs.Taking.{Adds, Fixing, Takable, single}
-use Rattle.intake.specs.State.{Begun, Numbers, row_in, k_in, t_in, tables_in, l_in, progress_in}
+use Rattle.intake.specs.Taking.{Adds, Fixing, Placed, Takable, single}
+use Rattle.intake.specs.State.{Begun, Numbers, row_in, k_in, t_in, tables_in, l_in, progress_in, held_by}
 use Rattle.intake.specs.Night.{Packet}
 use Rattle.intake.proofs.Steps.{adds-alike, buffered, buffered-is}
 
@@ -35,6 +36,15 @@ pivots-for b = record { enough = b.places; small = b.numbers.rules.l-high }
 -- the first l of n places that hold 0
 pub front-long : (n l : ℕ) → l ≤ n → length {A = ℕ} (take l (replicate n 0)) ≡ l
 front-long n l h = length-take-le l (replicate n 0) (omega (arith, length-replicate {A = ℕ} n 0))
+
+-- the buffers are as wide as the row and the symbol that were laid
+pub wide-as : (st s : List ℕ) {r : Row} {l t : ℕ} {x y : List ℕ} → r ≡ row_in st → l ≡ l_in st → length s ≡ t → Wide (l_of r) (length s) x y → Wide l t x y
+wide-as st s q e f w = record { row = w.row ∙ ap l_of q ∙ sym e; symbol = w.symbol ∙ f }
+
+-- how many are held fits a word
+pub held_small : (L : ℕ) (ps : List ℕ) (q : Option ℕ) → L ≤ 65535 → Placed L ps q → held_by q ≤ 65535
+held_small L ps (Some r) h p = omega (arith, p.0)
+held_small L ps None h p = omega arith
 
 -- one more may be taken, by the numbers that the code has
 pub begun-takable : {st ps a d : List ℕ} (l t : ℕ) (p : Option ℕ) → Begun st ps → StoresRoom (l_in st) (l_in st) (t_in st) a d → l ≡ l_in st → t ≡ t_in st

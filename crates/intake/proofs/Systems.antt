@@ -34,6 +34,9 @@ module _ {L T : ℕ} where
   pub alike_then : {S R Q : System ℕ} → Alike L T S R → Alike L T R Q → Alike L T S Q
   alike_then f g = record { to = included-then f.to g.to; back = included-then g.back f.back }
 
+  pub alike_turned : {S R : System ℕ} → Alike L T S R → Alike L T R S
+  alike_turned f = record { to = f.back; back = f.to }
+
   pub alike-parts : (S R Q P : System ℕ) → Alike L T S Q → Alike L T R P → Alike L T (joined S R) (joined Q P)
   alike-parts S R Q P f g = record { to = included-parts L T S R Q P f.to g.to; back = included-parts L T Q P S R f.back g.back }
 

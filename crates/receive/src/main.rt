@@ -7,7 +7,7 @@ mod listening;
 mod output;
 
 ghost use Rattle.std.specs.Prelude.{◌≤◌, length};
-ghost use Rattle.delivery.specs.Hearing.{Roomy};
+ghost use Rattle.delivery.specs.Hearing.{RoomyMemory};
 
 use delivery::beneath::receiver;
 use delivery::beneath::receiver::Memory;
@@ -51,12 +51,14 @@ fn take(
     store: &mut [u8],
     out: &[u8],
 ) -> io::Result<()>
-    requires roomy { Roomy memory.old }
+    requires roomy { RoomyMemory memory.old }
     requires in_bounds { (1028 ≤ length packet.old) × (length out.now ≤ 4000) }
     requires values_in_bounds { (length memory.old.values.now ≤ length set.old) × (length set.old ≤ length store.old) }
 {
     let typed = row_words::typed_in(head);
-    match receiver::open(head, memory) {
+    // Before the state is lent: there is no rule yet for doing it in the call.
+    let (pivots, rows, values) = (&mut *memory.pivots, &mut *memory.rows, &mut *memory.values);
+    match receiver::open(head, memory.state, pivots, rows, values) {
         Ok(ready) => {
             let packet = &mut packet[..ready.symbol_size + 4];
             follow(

@@ -4,7 +4,7 @@
 
 ghost use Rattle.reply.specs.Replies.{InStore};
 
-use header_text::input::read_full;
+use header_text::beneath::input::read_full;
 use reply::beneath::replying;
 use reply::beneath::replying::Reply;
 use std::fs::File;

@@ -22,6 +22,9 @@ line-counts {ys = ys} u = counts ys (omega (arith, u.count, u.room, u.laid.size)
 pub line-is : {ws xs ys : List ℕ} {n : ℕ} → Line ws xs ys n → take n ys ≡ ws
 line-is {ws} {xs} {ys} u = ap (λ (m : ℕ). take m ys) u.count ∙ laid-front ws u.laid u.room
 
+pub line_as : {bs cs xs ys : List ℕ} {n : ℕ} → Line bs xs ys n → bs ≡ cs → Line cs xs ys n
+line_as {bs} {cs} {xs} {ys} {n} u e = subst (λ (ds : List ℕ). Line ds xs ys n) e u
+
 -- the same number under another name
 pub lined-number : (label : List ℕ) {x y m : ℕ} {xs ys : List ℕ} {at to : ℕ} → Lined (label ++ spelled 20 x) m xs ys at to → x ≡ y
     → Lined (label ++ spelled 20 y) m xs ys at to

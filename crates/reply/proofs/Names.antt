@@ -34,6 +34,18 @@ beside-once {path} {xs} {ys} {zs} {i} {m} {n} a b =
     let u = subst (λ (k : ℕ). Line (beside_of path k i) xs zs n) (sym (last-once a.last b.last)) b.line in
     (a.line.count ∙ sym u.count, written_once a.line.laid u.laid)
 
+-- one place more that is no '/', on the way from the end to the front
+pub none_before : (path : List ℕ) (k : ℕ) → 0 < k → k ≤ length path → ((i : ℕ) → i < length path → k ≤ i → get_or path i 0 ≡ 47 → ⊥)
+    → (get_or path (k - 1) 0 ≡ 47 → ⊥)
+    → (k - 1 ≤ length path) × ((i : ℕ) → i < length path → k - 1 ≤ i → get_or path i 0 ≡ 47 → ⊥)
+none_before path k some h f g = (omega arith, λ i b l e. go i b l e (dec_lt i k))
+  where
+    go : (i : ℕ) → i < length path → k - 1 ≤ i → get_or path i 0 ≡ 47 → Dec (i < k) → ⊥
+    go i b l e (no m) = f i b (omega arith) e
+    go i b l e (yes m) =
+        let q : k - 1 ≡ i = omega arith in
+        g (ap (λ (x : ℕ). get_or path x 0) q ∙ e)
+
 -- ---- the name, laid in four parts
 
 module _ (path : List ℕ) (k i : ℕ) (h : k ≤ length path) where

@@ -107,3 +107,19 @@ streams-once {d} {ls} {ms} {ns} {ps} {xs} {ys} {us} {vs} {s} {u} f g a b =
     (subst (λ (o : Received). Said (typed_in d) b.store vs u.reply o) (sym e) b.said)
     in
     (w.0, ap₂ ◌++◌ (line-is a.noted ∙ sym (line-is n)) w.1)
+
+-- ---- what is written stands in the store
+
+words-front : (ws xs ys : List ℕ) (r : Reply) → InWords ws xs ys r → InStore r ys
+words-front ws xs ys (Object n) u = absurd u
+words-front ws xs ys (Words n) u = line-counts u
+
+module _ (zs ys : List ℕ) (r : Reply) where
+  verdict-front : (v : Verdict) (n : ℕ) → n ≤ length zs → SaidOf n zs ys r v → InStore r ys
+  verdict-front Solved n u w = subst (λ (t : Reply). InStore t ys) (sym w.0) (counts ys (omega (arith, ap length w.1)))
+  verdict-front Contradiction n u w = words-front (ascii "contradiction\n") zs ys r w
+  verdict-front (Open m) n u w = words-front (open_words m) zs ys r w
+
+  pub said-front : (t : Typed) (o : Received) → InRoom (length zs) o → Said t zs ys r o → InStore r ys
+  said-front t (Ok c) u w = verdict-front c.verdict c.size u w
+  said-front t (Err why) u w = words-front (stop_words t why) zs ys r w

@@ -5,23 +5,23 @@ use mathlib.Core.List.{List}
 use Prim.Native.Nat.{ℕ, ◌*◌}
 use lib.ListN.{length}
 use Rattle.std.specs.Prelude.{Result}
-use Rattle.std.specs.declared.ops.Range.{Range}
 use Rattle.field.specs.Runs.{added, fused, scaled}
 use Rattle.field.specs.declared.refusal.Refusal.{Refusal}
 use Rattle.field.proofs.Answers.{outcome_of-only}
 use Rattle.field.proofs.Refusals.{Settled, settled-written, settled-told}
 use Rattle.slabs.specs.Slab.{range_outcome, range_of, addressable, addressable_pair, start, symbol}
 use Rattle.slabs.specs.Slab.{Zeroed, SymbolsAdded, SymbolScaled, SymbolsFused}
+use Rattle.slabs.specs.declared.symbol_slab.Range.{Range}
 use Rattle.slabs.specs.declared.symbol_slab.SymbolSlab.{SymbolSlab}
 
-pub range-only : (a b : Result (Range ℕ) Refusal) → range_outcome a ≡ range_outcome b → a ≡ b
-range-only = outcome_of-only (λ (r : Range ℕ). (r.start, r.end)) (λ x. record { start = x.0; end = x.1 }) (λ r. refl)
+pub range-only : (a b : Result Range Refusal) → range_outcome a ≡ range_outcome b → a ≡ b
+range-only = outcome_of-only (λ (r : Range). (r.start, r.end)) (λ x. record { start = x.0; end = x.1 }) (λ r. refl)
 
 pub with-zeros-once : (xs : List ℕ) (count size : ℕ) → Settled (Zeroed xs count size)
 with-zeros-once xs count size = settled-written _ xs (λ k. 0) 0 (count * size)
 
 module _ (xs : List ℕ) (slab : SymbolSlab) (order : List ℕ) where
-  pub get-once : (len i : ℕ) (a b : Result (Range ℕ) Refusal) → range_outcome a ≡ range_of len slab.count slab.size order i
+  pub get-once : (len i : ℕ) (a b : Result Range Refusal) → range_outcome a ≡ range_of len slab.count slab.size order i
       → range_outcome b ≡ range_of len slab.count slab.size order i → a ≡ b
   get-once len i a b p q = range-only a b (p ∙ sym q)
 

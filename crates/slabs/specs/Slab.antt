@@ -1,11 +1,11 @@
 -- Symbols in lent bytes (document 01, 'Matrices and slab'; symbol_slab.rs): where symbol i lies, and which calls are refused.
 -- Assumes nothing.
 use Rattle.std.specs.Prelude.{◌≡◌, Bool, not, List, Result, ℕ, ◌+◌, ◌*◌, ◌<◌, eqb, ltb, leb, length, get_or}
-use Rattle.std.specs.declared.ops.Range.{Range}
 use Rattle.field.specs.Answer.{Outcome, given, unless, before, Does, Tells, outcome_of}
 use Rattle.field.specs.Choice.{pick, both}
 use Rattle.field.specs.Runs.{Written, part, added, fused, scaled}
 use Rattle.field.specs.declared.refusal.Refusal.{Refusal}
+use Rattle.slabs.specs.declared.symbol_slab.Range.{Range}
 use Rattle.slabs.specs.declared.symbol_slab.SymbolSlab.{SymbolSlab}
 
 -- where an order puts symbol i; an order of length 0 is none
@@ -50,7 +50,7 @@ abbrev pub range_of : ℕ → ℕ → ℕ → List ℕ → ℕ → Outcome (ℕ 
 range_of len count t order i = before (addressable len count t order i) (given (physical order i * t, physical order i * t + t))
 
 -- what a range that is told stands for: where it begins and ends
-abbrev pub range_outcome : Result (Range ℕ) Refusal → Outcome (ℕ × ℕ)
+abbrev pub range_outcome : Result Range Refusal → Outcome (ℕ × ℕ)
 range_outcome = outcome_of (λ r. (r.start, r.end))
 
 -- The calls. xs is the store at entry and ys at exit, r the answer.

@@ -10,13 +10,19 @@ ghost use Rattle.slabs.specs.Slab.{addressable, addressable_pair, physical, rang
 use crate::beneath::symbols;
 use field::beneath::runs;
 use field::refusal::Refusal;
-use std::ops::Range;
 
 // How many symbols there are, and how many bytes each has.
 #[derive(Clone, Copy, Debug, PartialEq, Eq)]
 pub struct SymbolSlab {
     pub count: usize,
     pub size: u16,
+}
+
+// Where the bytes of a symbol begin and where they end. Unlike std's range it is Copy.
+#[derive(Clone, Copy, Debug, PartialEq, Eq)]
+pub struct Range {
+    pub start: usize,
+    pub end: usize,
 }
 
 // An order is as long as the count, or there is none.
@@ -106,13 +112,16 @@ pub fn symbol_size(slab: SymbolSlab) -> u16
 }
 
 // Where symbol i lies among `len` bytes. The bytes themselves are the caller's to take from there: a part that is handed out has no number for a refusal.
-pub fn get(len: usize, slab: SymbolSlab, order: &[u32], i: usize) -> Result<Range<usize>, Refusal>
+pub fn get(len: usize, slab: SymbolSlab, order: &[u32], i: usize) -> Result<Range, Refusal>
     ensures { range_outcome result ≡ range_of len slab.count slab.size order.now i }
 {
     place(len, slab.count, slab.size, order, i)?;
     let t = usize::from(slab.size);
     let start = physical_index(order, i) * t;
-    Ok(start..start + t)
+    Ok(Range {
+        start,
+        end: start + t,
+    })
 }
 
 // The bytes of `src` are added to those of `dest`.

@@ -10,7 +10,7 @@ use Rattle.field.proofs.Parts.{block-ends, blocks-apart}
 use Rattle.field.specs.Runs.{Apart}
 use Rattle.field.specs.Answer.{given}
 use Rattle.field.proofs.Refusals.{passed, passed-before}
-use Rattle.stores.specs.Matrix.{row_words, words_of, row_at, limited, stored, placed, ranged, roomy, paired, spanned, listable}
+use Rattle.stores.specs.Matrix.{row_words, words_of, row_at, limited, stored, placed, ranged, roomy, paired, spanned, listable, shrinkable}
 use Rattle.stores.specs.declared.matrix.DenseBinaryMatrix.{DenseBinaryMatrix}
 
 pub limited-well : (height width : ℕ) → limited height width ≡ given tt → (height ≤ 131070) × (width ≤ 65535)
@@ -115,3 +115,27 @@ pub rows_in : {len : ℕ} {m : DenseBinaryMatrix} {start end : ℕ} → Stored l
 rows_in {len} {m} {start} {end} s l k =
     let e : start + (end - start) ≡ end = omega arith in
     rw e (omega (arith, mul-le-mul_right (row_words m.width) k, s.room), omega (arith, s.tall))
+
+pub record Shrinkable (len : ℕ) (m new : DenseBinaryMatrix) : Type 0 where
+  pub store : Stored len m
+  pub wide : new.width ≤ 65535
+  pub shorter : new.height ≤ m.height
+  pub narrower : new.width ≤ m.width
+
+pub shrinkable-well : (len : ℕ) (m new : DenseBinaryMatrix) → shrinkable len m new ≡ given tt → Shrinkable len m new
+shrinkable-well len m new e =
+    let a = passed-before (limited new.height new.width) _ tt e in
+    let b = passed-before (stored len m) _ tt a.2 in
+    let c = passed (ltb m.height new.height) 6 _ tt b.2 in
+    let d = passed (ltb m.width new.width) 6 _ tt c.1 in
+    record {
+      store = stored-well len m b.1;
+      wide = (limited-well new.height new.width a.1).1;
+      shorter = ltb-false _ _ c.0;
+      narrower = ltb-false _ _ d.0;
+    }
+
+-- the rows that are kept lie in the store, and their words among the old
+pub shrunk-in : {len : ℕ} {m new : DenseBinaryMatrix} → Shrinkable len m new
+    → (row_words new.width ≤ row_words m.width) × (new.height * row_words m.width ≤ len)
+shrunk-in {len} {m} {new} s = (omega (arith, s.narrower), omega (arith, mul-le-mul_right (row_words m.width) s.shorter, s.store.room))

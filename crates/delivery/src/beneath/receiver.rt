@@ -5,7 +5,7 @@ ghost use Rattle.intake.specs.State.{k_in, l_in, row_in, t_in, tables_in};
 ghost use Rattle.delivery.specs.Layout.{is_own, passed_of, t_of};
 ghost use Rattle.delivery.specs.Screen.{screen as Screen·screen};
 ghost use Rattle.delivery.specs.Received.{Comes, InRoom, Leaves, Rebuildable};
-ghost use Rattle.delivery.specs.Hearing.{ConcludesHeld, HearsMore, Held, OpenedSmall, Opens, Restorable, Roomy, StaysLent, StoresStay, stretch_at, stretch_of};
+ghost use Rattle.delivery.specs.Hearing.{ConcludesHeld, HearsMore, Held, OpenedSmall, Opens, Restorable, Roomy, RoomyMemory, StaysLent, stretch_at, stretch_of};
 
 use crate::beneath::packets::Passed;
 use crate::beneath::screen::Stop;
@@ -42,13 +42,17 @@ pub struct Concluded {
 }
 
 // Of a delivery that may be taken.
-fn start(bytes: &[u8], memory: &mut Memory<'_>) -> Result<Ready, Stop>
+fn start(
+    bytes: &[u8],
+    state: &mut [u32],
+    pivots: &[u16],
+    rows: &[u8],
+    values: &[u8],
+) -> Result<Ready, Stop>
     requires passes { Screen·screen bytes.now ≡ given tt }
-    requires roomy { Roomy memory.old }
-    ensures opens { Opens bytes.now memory.old memory.new result }
+    requires roomy { Roomy (length state.old) (length pivots.now) (length rows.now) (length values.now) }
+    ensures opens { Opens bytes.now state.old pivots.now rows.now values.now state.new result }
     ensures opened_small { OpenedSmall result }
-    ensures stores_stay { StoresStay memory.old memory.new }
-    ensures stays_lent { StaysLent memory.old memory.new }
 {
     let o = layout::info(bytes);
     // Neither call refuses: the screen has asked what they ask.
@@ -57,24 +61,28 @@ fn start(bytes: &[u8], memory: &mut Memory<'_>) -> Result<Ready, Stop>
     let k = util::int_div_ceil(o.transfer_length, u64::from(t)) as u32;
     let mut tables = [0u32; 1024];
     layout::read_tables(bytes, &mut tables);
-    let (pivots, rows, values) = (&mut *memory.pivots, &mut *memory.rows, &mut *memory.values);
-    begin(r, &tables, k, t, memory.state, pivots, rows, values)?;
+    begin(r, &tables, k, t, state, pivots, rows, values)?;
     Ok(Ready {
         symbol_size: usize::from(t),
         object_size: o.transfer_length as usize,
     })
 }
 
-// The head of a delivery, its first 4,128 bytes: what comes behind them is not looked at.
-pub fn open(bytes: &[u8], memory: &mut Memory<'_>) -> Result<Ready, Stop>
-    requires { Roomy memory.old }
-    ensures opens { Opens bytes.now memory.old memory.new result }
+// The head of a delivery, its first 4,128 bytes: what comes behind them is not looked at. Of the lent memory of an intake the state alone is written, so
+// pivots, rows and values are asked for reading.
+pub fn open(
+    bytes: &[u8],
+    state: &mut [u32],
+    pivots: &[u16],
+    rows: &[u8],
+    values: &[u8],
+) -> Result<Ready, Stop>
+    requires { Roomy (length state.old) (length pivots.now) (length rows.now) (length values.now) }
+    ensures opens { Opens bytes.now state.old pivots.now rows.now values.now state.new result }
     ensures opened_small { OpenedSmall result }
-    ensures stores_stay { StoresStay memory.old memory.new }
-    ensures stays_lent { StaysLent memory.old memory.new }
 {
     screen::screen(bytes)?;
-    start(bytes, memory)
+    start(bytes, state, pivots, rows, values)
 }
 
 // One packet, of T + 4 bytes: whether it is of the block. One of another block is passed over.
@@ -172,12 +180,14 @@ fn attempt(
     set: &mut [u8],
     out: &mut [u8],
 ) -> Result<Concluded, Stop>
-    requires roomy { Roomy memory.old }
+    requires roomy { RoomyMemory memory.old }
     requires values_in_bounds { (length memory.old.values.now ≤ length set.old) × (length set.old ≤ length out.old) }
     ensures comes { Comes bytes.now out.old out.new result }
     ensures in_room { InRoom (length out.new) result }
 {
-    let ready = open(bytes, memory)?;
+    // Before the state is lent: there is no rule yet for doing it in the call.
+    let (pivots, rows, values) = (&mut *memory.pivots, &mut *memory.rows, &mut *memory.values);
+    let ready = open(bytes, memory.state, pivots, rows, values)?;
     let passed = hear_all(bytes, ready.symbol_size, memory);
     conclude(ready.object_size, passed, memory, set, out)
 }

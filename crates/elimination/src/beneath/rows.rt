@@ -11,7 +11,10 @@ pub fn copy_row(source: &[u8], store: &mut [u8], w: usize, i: usize, k: usize)
 {
     let to = i * w;
     let from = k * w;
-    store[to..to + w].copy_from_slice(&source[from..from + w]);
+    // Octet by octet: `copy_from_slice` would be a call of libc's memmove.
+    for c in 0..w {
+        store[to + c] = source[from + c];
+    }
 }
 
 // Symbol k of a store goes into a buffer of t octets; the answer is whether it is all 0.

@@ -25,5 +25,8 @@ pub fn copy(store: &mut [u8], at: usize, bytes: &[u8])
     requires { at + length bytes.now ≤ length store.old }
     ensures { Laid bytes.now store.old store.new at }
 {
-    store[at..at + bytes.len()].copy_from_slice(bytes);
+    // Byte by byte: `copy_from_slice` would be a call of libc's memmove.
+    for i in 0..bytes.len() {
+        store[at + i] = bytes[i];
+    }
 }

@@ -13,6 +13,6 @@ pub fn deg(v: u32, w: u32) -> u32
     requires { (v < 1048576) × (2 ≤ w) }
     ensures { result ≡ degree v w }
 {
-    let d = F.partition_point(|f| *f <= v) as u32;
+    let d = F.iter().position(|f| v < *f).unwrap_or(F.len()) as u32;
     d.min(w - 2)
 }

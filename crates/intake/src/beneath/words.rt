@@ -96,7 +96,10 @@ fn copy(numbers: &[u32], state: &mut [u32], at: usize)
     requires { at + length numbers.now ≤ length state.old }
     ensures { Written (λ i. get_or numbers.now i 0) state.old state.new at (length numbers.now) }
 {
-    state[at..at + numbers.len()].copy_from_slice(numbers);
+    // Word by word: `copy_from_slice` would be a call of libc's memmove.
+    for i in 0..numbers.len() {
+        state[at + i] = numbers[i];
+    }
 }
 
 // The words of a begin: nothing is held, and the packets alone are taken.

@@ -14,8 +14,8 @@ pub fn scale(slab: &mut [u8], t: usize, to: usize, c: u8) -> bool
     runs::scale(&mut slab[to..to + t], c)
 }
 
-// The symbol at `to` becomes its sum with c times the symbol at `from`. The slab is split at the later of the two, so that the one is lent for writing
-// and the other for reading.
+// The symbol at `to` becomes its sum with c times the symbol at `from`. The slab is split at the later of the two, so that the one symbol's part is lent on
+// for writing and the other's for reading.
 pub fn fma(slab: &mut [u8], t: usize, to: usize, from: usize, c: u8) -> bool
     requires { Apart (length slab.old) t to from }
     ensures written { Written (fused slab.old to c (part slab.old from t)) slab.old slab.new to t }
@@ -23,9 +23,9 @@ pub fn fma(slab: &mut [u8], t: usize, to: usize, from: usize, c: u8) -> bool
 {
     if to < from {
         let (low, high) = slab.split_at_mut(from);
-        runs::fma_symbol(low, to, &high[..t], c)
+        runs::fma_symbol(&mut low[to..to + t], 0, &high[..t], c)
     } else {
         let (low, high) = slab.split_at_mut(to);
-        runs::fma_symbol(high, 0, &low[from..from + t], c)
+        runs::fma_symbol(&mut high[..t], 0, &low[from..from + t], c)
     }
 }

@@ -40,7 +40,9 @@ returns-in_err-begin-clause-opens c =
     let row = row_read d c.row.result c.row.ensures _ c.in_ok-r.was in
     let k = k-is d good c.info-o.ensures c.from.ensures c.int_div_ceil-k.ensures in
     let t = ap (λ (o : ObjectTransmissionInformation). o.symbol_size) c.info-o.ensures in
-    absurd (begin-not-refused d good c.read_tables.new.tables row.1 c.read_tables.auto.tables k t c.args.memory.now c.requires.roomy _ c.in_err-begin.ensures)
+    let s = c.args in
+    absurd (begin-not-refused d good c.read_tables.new.tables row.1 c.read_tables.auto.tables k t s.state.now s.pivots.now s.rows.now s.values.now
+    c.requires.roomy _ c.in_err-begin.ensures)
 
 pub returns-clause-opens : goal.returns-clause-opens
 returns-clause-opens c =
@@ -49,11 +51,13 @@ returns-clause-opens c =
     let row = row_read d c.row.result c.row.ensures _ c.in_ok-r.was in
     let k = k-is d good c.info-o.ensures c.from.ensures c.int_div_ceil-k.ensures in
     let t = ap (λ (o : ObjectTransmissionInformation). o.symbol_size) c.info-o.ensures in
+    let s = c.args in
     let v = c.read_tables.new.tables in (
       c.requires.passes,
       c.from-2.ensures ∙ t,
       ap (λ (o : ObjectTransmissionInformation). o.transfer_length) c.info-o.ensures,
-      begin-holds d good v row.1 c.read_tables.auto.tables k t c.args.memory.now c.requires.roomy (tables-are d c.read_tables.ensures refl) c.in_ok-begin.ensures,
+      begin-holds d good v row.1 c.read_tables.auto.tables k t s.state.now s.pivots.now s.rows.now s.values.now c.requires.roomy
+          (tables-are d c.read_tables.ensures refl) c.in_ok-begin.ensures,
     )
 
 pub returns-clause-opened_small : goal.returns-clause-opened_small

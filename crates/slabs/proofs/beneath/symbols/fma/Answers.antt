@@ -1,18 +1,30 @@
--- `slabs::beneath::symbols::fma` meets its contract: the symbol lies in one of the two parts, and the source in the other.
+-- `slabs::beneath::symbols::fma` meets its contract: the symbol's part lies in one of the two parts of the slab, and the source in the other.
 -- Assumes nothing.
+use mathlib.Core.Path.{refl}
 use native.Mathlib.Omega.{arith}
 use Rattle.std.proofs.lemmas.Grind.{common_steps}
-use Rattle.slabs.proofs.Symbols.{told-front, told-behind, written-behind}
+use Rattle.field.proofs.Parts.{written-part}
+use Rattle.field.proofs.Writing.{written_as, written_is}
+use Rattle.slabs.proofs.Symbols.{part-whole, told-whole, written-front, written-behind}
 use Rattle.slabs.proofs.beneath.symbols.fma.Goals as goal
 
+pub returns-then-to-from-clause-written : goal.returns-then-to-from-clause-written
+returns-then-to-from-clause-written c =
+    let own = part-whole _ c.args.to c.args.t c.fma_symbol.ensures.written (grind (arith, common_steps)) (grind (arith, common_steps)) in
+    written_as (written-front _ _ own c.split_at_mut-low.ensures.value (grind (arith, common_steps))) (λ k h. grind (arith, common_steps))
+
 pub returns-then-to-from-clause-value : goal.returns-then-to-from-clause-value
-returns-then-to-from-clause-value c = told-front _ _ _ c.fma_symbol.ensures.value (grind (arith, common_steps)) (grind (arith, common_steps))
+returns-then-to-from-clause-value c =
+    told-whole c.fma_symbol.ensures.written (returns-then-to-from-clause-written c) (grind (arith, common_steps))
+    (λ k h. grind (arith, common_steps)) c.fma_symbol.ensures.value
 
 pub returns-else-to-from-clause-written : goal.returns-else-to-from-clause-written
 returns-else-to-from-clause-written c =
-    written-behind _ _ _ c.fma_symbol-else-to-from.ensures.written (grind (arith, common_steps)) c.split_at_mut-low-else-to-from.ensures.front_len
-    c.split_at_mut-low-else-to-from.ensures.value (λ k h. grind (arith, common_steps))
+    written-behind _ _ _
+    (written-part _ 0 c.args.t (written_is c.fma_symbol-else-to-from.ensures.written (grind (arith, common_steps))) (grind (arith, common_steps)) (omega arith))
+    refl c.split_at_mut-low-else-to-from.ensures.front_len c.split_at_mut-low-else-to-from.ensures.value (λ k h. grind (arith, common_steps))
 
 pub returns-else-to-from-clause-value : goal.returns-else-to-from-clause-value
 returns-else-to-from-clause-value c =
-    told-behind _ _ _ c.fma_symbol-else-to-from.ensures.value (grind (arith, common_steps)) c.split_at_mut-low-else-to-from.ensures.front_len
+    told-whole c.fma_symbol-else-to-from.ensures.written (returns-else-to-from-clause-written c) (grind (arith, common_steps))
+    (λ k h. grind (arith, common_steps)) c.fma_symbol-else-to-from.ensures.value
