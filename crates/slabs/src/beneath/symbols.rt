@@ -14,6 +14,15 @@ pub fn scale(slab: &mut [u8], t: usize, to: usize, c: u8) -> bool
     runs::scale(&mut slab[to..to + t], c)
 }
 
+// The one symbol's part, and no more, becomes its sum with c times the other's.
+fn fuse(part: &mut [u8], other: &[u8], c: u8) -> bool
+    requires { length part.old ≡ length other.now }
+    ensures written { Written (fused part.old 0 c other.now) part.old part.new 0 (length other.now) }
+    ensures value { result ≡ zero_from part.new 0 (length other.now) }
+{
+    runs::fma_symbol(part, 0, other, c)
+}
+
 // The symbol at `to` becomes its sum with c times the symbol at `from`. The slab is split at the later of the two, so that the one symbol's part is lent on
 // for writing and the other's for reading.
 pub fn fma(slab: &mut [u8], t: usize, to: usize, from: usize, c: u8) -> bool
@@ -23,9 +32,9 @@ pub fn fma(slab: &mut [u8], t: usize, to: usize, from: usize, c: u8) -> bool
 {
     if to < from {
         let (low, high) = slab.split_at_mut(from);
-        runs::fma_symbol(&mut low[to..to + t], 0, &high[..t], c)
+        fuse(&mut low[to..to + t], &high[..t], c)
     } else {
         let (low, high) = slab.split_at_mut(to);
-        runs::fma_symbol(&mut high[..t], 0, &low[from..from + t], c)
+        fuse(&mut high[..t], &low[from..from + t], c)
     }
 }
